@@ -1,169 +1,160 @@
-// Each call of the four kinds of objects as a function of its own. mc2_cells.h includes this.
+// mc2_by_name.h - each call of the four kinds of objects as a function of its own. mc2_cells.h includes this.
 //
-// Each, as mc2_queue_enq, waits for the object, does the call, and gives the object back: MC2_CELL_DONE, or why it wasn't done. It
-// counts the looks. At an object of another kind the call is an event as well, and the reply MC2_BADCALL.
+// Each is as mc2_cell_call with that call: it acquires the lock, performs the call as one event of the log, and releases the lock.
+//   reply    out, on MC2_DONE: one of the replies named below. At an object of another kind it is MC2_BADCALL.
+// Returns  MC2_DONE; MC2_LOG_FULL: nothing was done; MC2_REFUSED: the caller isn't idle.
+// Context  Blocks as mc2_acquire. Not in an interrupt handler.
+// Ordering Acquire, then release.
 #include "mc2_cells.h"
 #ifndef MC2_BY_NAME_H
 #define MC2_BY_NAME_H
 
-#ifdef __cplusplus
-extern "C" {
-#endif
-
-// The functions of the library: each tells what mc2_caller_call tells of that call. They are faster, as they needn't find out which
-// call it is.
-uint32_t mc2_call_enq(struct mc2_caller *caller, uint32_t thread, struct mc2_reply *reply, uint64_t *looks);
-uint32_t mc2_call_deq(struct mc2_caller *caller, struct mc2_reply *reply, uint64_t *looks);
-uint32_t mc2_call_remove(struct mc2_caller *caller, uint32_t thread, struct mc2_reply *reply, uint64_t *looks);
-uint32_t mc2_call_len(struct mc2_caller *caller, struct mc2_reply *reply, uint64_t *looks);
-uint32_t mc2_call_alloc(struct mc2_caller *caller, uint32_t owner, struct mc2_reply *reply, uint64_t *looks);
-uint32_t mc2_call_free(struct mc2_caller *caller, uint32_t owner, uint32_t page, struct mc2_reply *reply, uint64_t *looks);
-uint32_t mc2_call_left(struct mc2_caller *caller, struct mc2_reply *reply, uint64_t *looks);
-uint32_t mc2_call_put(struct mc2_caller *caller, uint8_t byte, struct mc2_reply *reply, uint64_t *looks);
-uint32_t mc2_call_get(struct mc2_caller *caller, struct mc2_reply *reply, uint64_t *looks);
-uint32_t mc2_call_level(struct mc2_caller *caller, struct mc2_reply *reply, uint64_t *looks);
-uint32_t mc2_call_ready(struct mc2_caller *caller, uint32_t thread, struct mc2_reply *reply, uint64_t *looks);
-uint32_t mc2_call_next(struct mc2_caller *caller, struct mc2_reply *reply, uint64_t *looks);
-uint32_t mc2_call_sleep(struct mc2_caller *caller, uint32_t channel, uint32_t thread, struct mc2_reply *reply, uint64_t *looks);
-uint32_t mc2_call_wake(struct mc2_caller *caller, uint32_t channel, struct mc2_reply *reply, uint64_t *looks);
-uint32_t mc2_call_wakeall(struct mc2_caller *caller, uint32_t channel, struct mc2_reply *reply, uint64_t *looks);
-
-#ifdef __cplusplus
-}
-#endif
-
-// A whole call, which goes to the function with its name.
-static inline uint32_t mc2_call_once(struct mc2_caller *caller, struct mc2_call call, struct mc2_reply *reply, uint64_t *looks) {
+// Internal: a whole call without waiting, by the function of its name.
+static inline uint32_t mc2_priv_poll(struct mc2_caller *caller, struct mc2_call call, struct mc2_reply *reply) {
+    uint64_t *looks = &caller->looks;
     switch (call.word) {
-    case MC2_ENQ: return mc2_call_enq(caller, call.first, reply, looks);
-    case MC2_DEQ: return mc2_call_deq(caller, reply, looks);
-    case MC2_REMOVE: return mc2_call_remove(caller, call.first, reply, looks);
-    case MC2_LEN: return mc2_call_len(caller, reply, looks);
-    case MC2_ALLOC: return mc2_call_alloc(caller, call.first, reply, looks);
-    case MC2_FREE: return mc2_call_free(caller, call.first, call.second, reply, looks);
-    case MC2_LEFT: return mc2_call_left(caller, reply, looks);
-    case MC2_GET: return mc2_call_get(caller, reply, looks);
-    case MC2_LEVEL: return mc2_call_level(caller, reply, looks);
-    case MC2_READY: return mc2_call_ready(caller, call.first, reply, looks);
-    case MC2_NEXT: return mc2_call_next(caller, reply, looks);
-    case MC2_SLEEP: return mc2_call_sleep(caller, call.first, call.second, reply, looks);
-    case MC2_WAKE: return mc2_call_wake(caller, call.first, reply, looks);
-    case MC2_WAKEALL: return mc2_call_wakeall(caller, call.first, reply, looks);
-    // (by its number: a call that isn't there, as that of a byte of more than 255)
+    case MC2_ENQ: return mc2_poll_enq(caller, call.first, reply, looks);
+    case MC2_DEQ: return mc2_poll_deq(caller, reply, looks);
+    case MC2_REMOVE: return mc2_poll_remove(caller, call.first, reply, looks);
+    case MC2_LEN: return mc2_poll_len(caller, reply, looks);
+    case MC2_ALLOC: return mc2_poll_alloc(caller, call.first, reply, looks);
+    case MC2_FREE: return mc2_poll_free(caller, call.first, call.second, reply, looks);
+    case MC2_LEFT: return mc2_poll_left(caller, reply, looks);
+    case MC2_GET: return mc2_poll_get(caller, reply, looks);
+    case MC2_LEVEL: return mc2_poll_level(caller, reply, looks);
+    case MC2_READY: return mc2_poll_ready(caller, call.first, reply, looks);
+    case MC2_NEXT: return mc2_poll_next(caller, reply, looks);
+    case MC2_SLEEP: return mc2_poll_sleep(caller, call.first, call.second, reply, looks);
+    case MC2_WAKE: return mc2_poll_wake(caller, call.first, reply, looks);
+    case MC2_WAKEALL: return mc2_poll_wakeall(caller, call.first, reply, looks);
+    // (by its number: a call that doesn't exist, such as one of a byte above 255)
     default:
-        return call.word == MC2_PUT && call.first <= 255 ? mc2_call_put(caller, (uint8_t)call.first, reply, looks)
-                                                         : mc2_caller_call(caller, &call, reply, looks);
+        return call.word == MC2_PUT && call.first <= 255 ? mc2_poll_put(caller, (uint8_t)call.first, reply, looks)
+                                                         : mc2_poll_call(caller, &call, reply, looks);
     }
 }
 
-MC2_SELDOM uint32_t mc2_call_on(struct mc2_caller *caller, struct mc2_call call, struct mc2_reply *reply, uint64_t *looks,
-                                uint32_t told);
+MC2_PRIV_COLD uint32_t mc2_priv_call_slow(struct mc2_caller *caller, struct mc2_call call, struct mc2_reply *reply,
+                                          uint32_t result);
 
-static inline uint32_t mc2_queue_enq(struct mc2_caller *caller, uint32_t thread, struct mc2_reply *reply, uint64_t *looks) {
-    *looks = 0;
-    mc2_stay_outside(caller->resting);
-    uint32_t told = MC2_STEP(mc2_call_enq(caller, thread, reply, looks));
-    return told == MC2_CELL_DONE ? told : mc2_call_on(caller, mc2_ask(MC2_ENQ, thread, 0), reply, looks, told);
+// Appends a thread to the queue. Replies: MC2_OK; MC2_BADTHREAD: no such thread; MC2_ALREADY: it is in the queue.
+static inline uint32_t mc2_queue_enq(struct mc2_caller *caller, uint32_t thread, struct mc2_reply *reply) {
+    caller->looks = 0;
+    mc2_throttle(caller->waiters);
+    uint32_t result = MC2_IRQ_OFF(mc2_poll_enq(caller, thread, reply, &caller->looks));
+    return result == MC2_DONE ? result : mc2_priv_call_slow(caller, mc2_call_of(MC2_ENQ, thread, 0), reply, result);
 }
 
-static inline uint32_t mc2_queue_deq(struct mc2_caller *caller, struct mc2_reply *reply, uint64_t *looks) {
-    *looks = 0;
-    mc2_stay_outside(caller->resting);
-    uint32_t told = MC2_STEP(mc2_call_deq(caller, reply, looks));
-    return told == MC2_CELL_DONE ? told : mc2_call_on(caller, mc2_ask(MC2_DEQ, 0, 0), reply, looks, told);
+// Removes the first thread. Replies: MC2_THREAD with its number; MC2_EMPTY.
+static inline uint32_t mc2_queue_deq(struct mc2_caller *caller, struct mc2_reply *reply) {
+    caller->looks = 0;
+    mc2_throttle(caller->waiters);
+    uint32_t result = MC2_IRQ_OFF(mc2_poll_deq(caller, reply, &caller->looks));
+    return result == MC2_DONE ? result : mc2_priv_call_slow(caller, mc2_call_of(MC2_DEQ, 0, 0), reply, result);
 }
 
-static inline uint32_t mc2_queue_remove(struct mc2_caller *caller, uint32_t thread, struct mc2_reply *reply, uint64_t *looks) {
-    *looks = 0;
-    mc2_stay_outside(caller->resting);
-    uint32_t told = MC2_STEP(mc2_call_remove(caller, thread, reply, looks));
-    return told == MC2_CELL_DONE ? told : mc2_call_on(caller, mc2_ask(MC2_REMOVE, thread, 0), reply, looks, told);
+// Removes a thread, wherever it is in the queue. Replies: MC2_OK; MC2_BADTHREAD; MC2_ABSENT.
+static inline uint32_t mc2_queue_remove(struct mc2_caller *caller, uint32_t thread, struct mc2_reply *reply) {
+    caller->looks = 0;
+    mc2_throttle(caller->waiters);
+    uint32_t result = MC2_IRQ_OFF(mc2_poll_remove(caller, thread, reply, &caller->looks));
+    return result == MC2_DONE ? result : mc2_priv_call_slow(caller, mc2_call_of(MC2_REMOVE, thread, 0), reply, result);
 }
 
-static inline uint32_t mc2_queue_len(struct mc2_caller *caller, struct mc2_reply *reply, uint64_t *looks) {
-    *looks = 0;
-    mc2_stay_outside(caller->resting);
-    uint32_t told = MC2_STEP(mc2_call_len(caller, reply, looks));
-    return told == MC2_CELL_DONE ? told : mc2_call_on(caller, mc2_ask(MC2_LEN, 0, 0), reply, looks, told);
+// Counts the threads in the queue. Reply: MC2_COUNT with the number.
+static inline uint32_t mc2_queue_len(struct mc2_caller *caller, struct mc2_reply *reply) {
+    caller->looks = 0;
+    mc2_throttle(caller->waiters);
+    uint32_t result = MC2_IRQ_OFF(mc2_poll_len(caller, reply, &caller->looks));
+    return result == MC2_DONE ? result : mc2_priv_call_slow(caller, mc2_call_of(MC2_LEN, 0, 0), reply, result);
 }
 
-static inline uint32_t mc2_pool_alloc(struct mc2_caller *caller, uint32_t owner, struct mc2_reply *reply, uint64_t *looks) {
-    *looks = 0;
-    mc2_stay_outside(caller->resting);
-    uint32_t told = MC2_STEP(mc2_call_alloc(caller, owner, reply, looks));
-    return told == MC2_CELL_DONE ? told : mc2_call_on(caller, mc2_ask(MC2_ALLOC, owner, 0), reply, looks, told);
+// Allocates the free page of the lowest number. Replies: MC2_PAGE with its number; MC2_BADOWNER; MC2_NONE; MC2_OVERQUOTA.
+static inline uint32_t mc2_pool_alloc(struct mc2_caller *caller, uint32_t owner, struct mc2_reply *reply) {
+    caller->looks = 0;
+    mc2_throttle(caller->waiters);
+    uint32_t result = MC2_IRQ_OFF(mc2_poll_alloc(caller, owner, reply, &caller->looks));
+    return result == MC2_DONE ? result : mc2_priv_call_slow(caller, mc2_call_of(MC2_ALLOC, owner, 0), reply, result);
 }
 
-static inline uint32_t mc2_pool_free(struct mc2_caller *caller, uint32_t owner, uint32_t page, struct mc2_reply *reply,
-                                     uint64_t *looks) {
-    *looks = 0;
-    mc2_stay_outside(caller->resting);
-    uint32_t told = MC2_STEP(mc2_call_free(caller, owner, page, reply, looks));
-    return told == MC2_CELL_DONE ? told : mc2_call_on(caller, mc2_ask(MC2_FREE, owner, page), reply, looks, told);
+// Frees a page of an owner. Replies: MC2_OK; MC2_BADOWNER; MC2_BADPAGE; MC2_NOTTAKEN; MC2_NOTYOURS.
+static inline uint32_t mc2_pool_free(struct mc2_caller *caller, uint32_t owner, uint32_t page, struct mc2_reply *reply) {
+    caller->looks = 0;
+    mc2_throttle(caller->waiters);
+    uint32_t result = MC2_IRQ_OFF(mc2_poll_free(caller, owner, page, reply, &caller->looks));
+    return result == MC2_DONE ? result : mc2_priv_call_slow(caller, mc2_call_of(MC2_FREE, owner, page), reply, result);
 }
 
-static inline uint32_t mc2_pool_left(struct mc2_caller *caller, struct mc2_reply *reply, uint64_t *looks) {
-    *looks = 0;
-    mc2_stay_outside(caller->resting);
-    uint32_t told = MC2_STEP(mc2_call_left(caller, reply, looks));
-    return told == MC2_CELL_DONE ? told : mc2_call_on(caller, mc2_ask(MC2_LEFT, 0, 0), reply, looks, told);
+// Counts the free pages. Reply: MC2_COUNT with the number.
+static inline uint32_t mc2_pool_left(struct mc2_caller *caller, struct mc2_reply *reply) {
+    caller->looks = 0;
+    mc2_throttle(caller->waiters);
+    uint32_t result = MC2_IRQ_OFF(mc2_poll_left(caller, reply, &caller->looks));
+    return result == MC2_DONE ? result : mc2_priv_call_slow(caller, mc2_call_of(MC2_LEFT, 0, 0), reply, result);
 }
 
-static inline uint32_t mc2_console_put(struct mc2_caller *caller, uint8_t byte, struct mc2_reply *reply, uint64_t *looks) {
-    *looks = 0;
-    mc2_stay_outside(caller->resting);
-    uint32_t told = MC2_STEP(mc2_call_put(caller, byte, reply, looks));
-    return told == MC2_CELL_DONE ? told : mc2_call_on(caller, mc2_ask(MC2_PUT, byte, 0), reply, looks, told);
+// Appends a byte to the ring. Replies: MC2_OK; MC2_DROPPED with the oldest byte, dropped as the ring was full.
+static inline uint32_t mc2_console_put(struct mc2_caller *caller, uint8_t byte, struct mc2_reply *reply) {
+    caller->looks = 0;
+    mc2_throttle(caller->waiters);
+    uint32_t result = MC2_IRQ_OFF(mc2_poll_put(caller, byte, reply, &caller->looks));
+    return result == MC2_DONE ? result : mc2_priv_call_slow(caller, mc2_call_of(MC2_PUT, byte, 0), reply, result);
 }
 
-static inline uint32_t mc2_console_get(struct mc2_caller *caller, struct mc2_reply *reply, uint64_t *looks) {
-    *looks = 0;
-    mc2_stay_outside(caller->resting);
-    uint32_t told = MC2_STEP(mc2_call_get(caller, reply, looks));
-    return told == MC2_CELL_DONE ? told : mc2_call_on(caller, mc2_ask(MC2_GET, 0, 0), reply, looks, told);
+// Removes the oldest byte. Replies: MC2_BYTE with the byte; MC2_EMPTY.
+static inline uint32_t mc2_console_get(struct mc2_caller *caller, struct mc2_reply *reply) {
+    caller->looks = 0;
+    mc2_throttle(caller->waiters);
+    uint32_t result = MC2_IRQ_OFF(mc2_poll_get(caller, reply, &caller->looks));
+    return result == MC2_DONE ? result : mc2_priv_call_slow(caller, mc2_call_of(MC2_GET, 0, 0), reply, result);
 }
 
-static inline uint32_t mc2_console_level(struct mc2_caller *caller, struct mc2_reply *reply, uint64_t *looks) {
-    *looks = 0;
-    mc2_stay_outside(caller->resting);
-    uint32_t told = MC2_STEP(mc2_call_level(caller, reply, looks));
-    return told == MC2_CELL_DONE ? told : mc2_call_on(caller, mc2_ask(MC2_LEVEL, 0, 0), reply, looks, told);
+// Counts the bytes in the ring. Reply: MC2_COUNT with the number.
+static inline uint32_t mc2_console_level(struct mc2_caller *caller, struct mc2_reply *reply) {
+    caller->looks = 0;
+    mc2_throttle(caller->waiters);
+    uint32_t result = MC2_IRQ_OFF(mc2_poll_level(caller, reply, &caller->looks));
+    return result == MC2_DONE ? result : mc2_priv_call_slow(caller, mc2_call_of(MC2_LEVEL, 0, 0), reply, result);
 }
 
-static inline uint32_t mc2_sched_ready(struct mc2_caller *caller, uint32_t thread, struct mc2_reply *reply, uint64_t *looks) {
-    *looks = 0;
-    mc2_stay_outside(caller->resting);
-    uint32_t told = MC2_STEP(mc2_call_ready(caller, thread, reply, looks));
-    return told == MC2_CELL_DONE ? told : mc2_call_on(caller, mc2_ask(MC2_READY, thread, 0), reply, looks, told);
+// Appends a thread to the ready queue. Replies: MC2_OK; MC2_BADTHREAD; MC2_ALREADY: it is ready or asleep.
+static inline uint32_t mc2_sched_ready(struct mc2_caller *caller, uint32_t thread, struct mc2_reply *reply) {
+    caller->looks = 0;
+    mc2_throttle(caller->waiters);
+    uint32_t result = MC2_IRQ_OFF(mc2_poll_ready(caller, thread, reply, &caller->looks));
+    return result == MC2_DONE ? result : mc2_priv_call_slow(caller, mc2_call_of(MC2_READY, thread, 0), reply, result);
 }
 
-static inline uint32_t mc2_sched_next(struct mc2_caller *caller, struct mc2_reply *reply, uint64_t *looks) {
-    *looks = 0;
-    mc2_stay_outside(caller->resting);
-    uint32_t told = MC2_STEP(mc2_call_next(caller, reply, looks));
-    return told == MC2_CELL_DONE ? told : mc2_call_on(caller, mc2_ask(MC2_NEXT, 0, 0), reply, looks, told);
+// Removes the first ready thread. Replies: MC2_THREAD with its number; MC2_EMPTY.
+static inline uint32_t mc2_sched_next(struct mc2_caller *caller, struct mc2_reply *reply) {
+    caller->looks = 0;
+    mc2_throttle(caller->waiters);
+    uint32_t result = MC2_IRQ_OFF(mc2_poll_next(caller, reply, &caller->looks));
+    return result == MC2_DONE ? result : mc2_priv_call_slow(caller, mc2_call_of(MC2_NEXT, 0, 0), reply, result);
 }
 
-static inline uint32_t mc2_sched_sleep(struct mc2_caller *caller, uint32_t channel, uint32_t thread, struct mc2_reply *reply,
-                                       uint64_t *looks) {
-    *looks = 0;
-    mc2_stay_outside(caller->resting);
-    uint32_t told = MC2_STEP(mc2_call_sleep(caller, channel, thread, reply, looks));
-    return told == MC2_CELL_DONE ? told : mc2_call_on(caller, mc2_ask(MC2_SLEEP, channel, thread), reply, looks, told);
+// Puts a thread to sleep on a channel. Replies: MC2_OK; MC2_BADCHANNEL; MC2_BADTHREAD; MC2_ALREADY.
+static inline uint32_t mc2_sched_sleep(struct mc2_caller *caller, uint32_t channel, uint32_t thread, struct mc2_reply *reply) {
+    caller->looks = 0;
+    mc2_throttle(caller->waiters);
+    uint32_t result = MC2_IRQ_OFF(mc2_poll_sleep(caller, channel, thread, reply, &caller->looks));
+    return result == MC2_DONE ? result : mc2_priv_call_slow(caller, mc2_call_of(MC2_SLEEP, channel, thread), reply, result);
 }
 
-static inline uint32_t mc2_sched_wake(struct mc2_caller *caller, uint32_t channel, struct mc2_reply *reply, uint64_t *looks) {
-    *looks = 0;
-    mc2_stay_outside(caller->resting);
-    uint32_t told = MC2_STEP(mc2_call_wake(caller, channel, reply, looks));
-    return told == MC2_CELL_DONE ? told : mc2_call_on(caller, mc2_ask(MC2_WAKE, channel, 0), reply, looks, told);
+// Makes the first thread of a channel ready. Replies: MC2_THREAD with its number; MC2_BADCHANNEL; MC2_EMPTY.
+static inline uint32_t mc2_sched_wake(struct mc2_caller *caller, uint32_t channel, struct mc2_reply *reply) {
+    caller->looks = 0;
+    mc2_throttle(caller->waiters);
+    uint32_t result = MC2_IRQ_OFF(mc2_poll_wake(caller, channel, reply, &caller->looks));
+    return result == MC2_DONE ? result : mc2_priv_call_slow(caller, mc2_call_of(MC2_WAKE, channel, 0), reply, result);
 }
 
-static inline uint32_t mc2_sched_wakeall(struct mc2_caller *caller, uint32_t channel, struct mc2_reply *reply, uint64_t *looks) {
-    *looks = 0;
-    mc2_stay_outside(caller->resting);
-    uint32_t told = MC2_STEP(mc2_call_wakeall(caller, channel, reply, looks));
-    return told == MC2_CELL_DONE ? told : mc2_call_on(caller, mc2_ask(MC2_WAKEALL, channel, 0), reply, looks, told);
+// Makes all threads of a channel ready. Replies: MC2_COUNT with how many; MC2_BADCHANNEL.
+static inline uint32_t mc2_sched_wakeall(struct mc2_caller *caller, uint32_t channel, struct mc2_reply *reply) {
+    caller->looks = 0;
+    mc2_throttle(caller->waiters);
+    uint32_t result = MC2_IRQ_OFF(mc2_poll_wakeall(caller, channel, reply, &caller->looks));
+    return result == MC2_DONE ? result : mc2_priv_call_slow(caller, mc2_call_of(MC2_WAKEALL, channel, 0), reply, result);
 }
 
 #endif

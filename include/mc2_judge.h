@@ -58,28 +58,28 @@ enum mc2_verdict {
     MC2_OUT_OF_MEMORY = 9,
     /* The order, or the cycle, has no room, and nothing was written to it: how many places are needed. */
     MC2_NO_ROOM = 10,
-    /* Told by the functions of mc2_own.h alone. The text is a record, but a count is missing, one too many, or above the steps
+    /* Told by the functions of mc2_custom.h alone. The text is a record, but a count is missing, one too many, or above the steps
        of its log: the first such object. */
-    MC2_MISTOLD = 11
+    MC2_WRONG_COUNTS = 11
 };
 
 /* One of mc2_verdict, and its numbers. Those that it has not are 0. */
-struct mc2_told {
+struct mc2_report {
     uint32_t kind;
     uint64_t first, second, third;
 };
 
 /* An entry: its CPU, and its place among that CPU's. */
-struct mc2_turn {
+struct mc2_entry_id {
     uint64_t cpu, entry;
 };
 
 /* Tells whether the record of this text is sound, or else its first fault. */
-void mc2_audit(const uint8_t *text, size_t length, struct mc2_told *told);
+void mc2_audit(const uint8_t *text, size_t length, struct mc2_report *told);
 
 /* Puts the entries of the record of this text in one order: each CPU's in theirs, those done on an object in its log's. A record
    has at most 640,000. */
-void mc2_merge(const uint8_t *text, size_t length, struct mc2_turn *room, size_t turns, struct mc2_told *told);
+void mc2_merge(const uint8_t *text, size_t length, struct mc2_entry_id *room, size_t turns, struct mc2_report *told);
 
 #ifdef __cplusplus
 }
@@ -87,23 +87,23 @@ void mc2_merge(const uint8_t *text, size_t length, struct mc2_turn *room, size_t
 
 /* What crosses lies as the library has it. tests/c/judge compares its sources with this header, name by name. */
 #ifdef __cplusplus
-#define MC2_HAS(type, field, place) static_assert(offsetof(struct type, field) == (place), "another layout")
-#define MC2_HAS_SIZE(type, size) static_assert(sizeof(struct type) == (size), "another size")
+#define MC2_PRIV_HAS(type, field, place) static_assert(offsetof(struct type, field) == (place), "another layout")
+#define MC2_PRIV_HAS_SIZE(type, size) static_assert(sizeof(struct type) == (size), "another size")
 #else
-#define MC2_HAS(type, field, place) _Static_assert(offsetof(struct type, field) == (place), "another layout")
-#define MC2_HAS_SIZE(type, size) _Static_assert(sizeof(struct type) == (size), "another size")
+#define MC2_PRIV_HAS(type, field, place) _Static_assert(offsetof(struct type, field) == (place), "another layout")
+#define MC2_PRIV_HAS_SIZE(type, size) _Static_assert(sizeof(struct type) == (size), "another size")
 #endif
 
-MC2_HAS(mc2_told, kind, 0);
-MC2_HAS(mc2_told, first, 8);
-MC2_HAS(mc2_told, second, 16);
-MC2_HAS(mc2_told, third, 24);
-MC2_HAS_SIZE(mc2_told, 32);
-MC2_HAS(mc2_turn, cpu, 0);
-MC2_HAS(mc2_turn, entry, 8);
-MC2_HAS_SIZE(mc2_turn, 16);
+MC2_PRIV_HAS(mc2_report, kind, 0);
+MC2_PRIV_HAS(mc2_report, first, 8);
+MC2_PRIV_HAS(mc2_report, second, 16);
+MC2_PRIV_HAS(mc2_report, third, 24);
+MC2_PRIV_HAS_SIZE(mc2_report, 32);
+MC2_PRIV_HAS(mc2_entry_id, cpu, 0);
+MC2_PRIV_HAS(mc2_entry_id, entry, 8);
+MC2_PRIV_HAS_SIZE(mc2_entry_id, 16);
 
-#undef MC2_HAS
-#undef MC2_HAS_SIZE
+#undef MC2_PRIV_HAS
+#undef MC2_PRIV_HAS_SIZE
 
 #endif

@@ -69,39 +69,39 @@ static void each_call(uint32_t kind) {
     struct mc2_cell cell;
     struct mc2_caller caller;
     uint64_t looks;
-    must(mc2_cells_open(&cell, &object, &caller, 1), MC2_CELL_DONE, "opening");
+    must(mc2_cell_open(&cell, &object, &caller, 1), MC2_DONE, "opening");
     for (uint32_t word = 0; word < MC2_CALL_WORDS; word++) {
         replies[word] = (struct mc2_reply){NO_REPLY, 0};
-        must(call_named(&caller, word, &replies[word], &looks), MC2_CELL_DONE, "a call");
+        must(call_named(&caller, word, &replies[word], &looks), MC2_DONE, "a call");
         must_be(looks == (lock == MC2_TICKET), "its looks");
         must_be((replies[word].word == MC2_BADCALL) == (KIND_OF[word] != kind), "badcall at another kind alone");
         must_be(replies[word].word < MC2_REPLY_WORDS, "its reply");
     }
-    must(mc2_cells_close(&cell, &caller, 1), MC2_CELL_DONE, "closing");
+    must(mc2_cell_close(&cell, &caller, 1), MC2_DONE, "closing");
     for (uint32_t word = 0; word < MC2_CALL_WORDS; word++) {
-        must(mc2_cell_step(&cell, word, 0, &logged), MC2_CELL_DONE, "its step");
+        must(mc2_handle_read_step(&cell, word, 0, &logged), MC2_DONE, "its step");
         must_be(is_step(&logged.step, word, replies[word]), "the step of that call, with its reply");
     }
-    must(mc2_cell_free(&cell), MC2_CELL_DONE, "freeing");
+    must(mc2_cell_free_bare(&cell), MC2_DONE, "freeing");
 }
 
 /* The third caller comes behind the second, which has the object by its name. */
 static void kept(struct mc2_caller *second, struct mc2_caller *third) {
     struct mc2_reply reply = {NO_REPLY, 0};
     uint64_t looks = 0;
-    must(mc2_caller_advance(third), MC2_CELL_STEPPED, "clearing, or drawing");
+    must(mc2_acquire_step(third), MC2_STEPPED, "clearing, or drawing");
     if (lock == MC2_MCS)
-        must(mc2_caller_advance(third), MC2_CELL_STEPPED, "entering");
-    must(mc2_call_len(second, &reply, &looks), lock == MC2_MCS ? MC2_CELL_DONE_KEPT : MC2_CELL_DONE, "a call that goes on");
+        must(mc2_acquire_step(third), MC2_STEPPED, "entering");
+    must(mc2_poll_len(second, &reply, &looks), lock == MC2_MCS ? MC2_DONE_HELD : MC2_DONE, "a call that goes on");
     must_be(reply.word == MC2_COUNT && reply.number == 1 && looks == 1, "its reply, by one look");
     if (lock == MC2_MCS) {
-        must(mc2_call_len(second, &reply, &looks), MC2_CELL_REFUSED, "a call of who keeps the object");
-        must(mc2_caller_leave(second), MC2_CELL_LOOKED, "leaving before the other has linked itself");
-        must(mc2_caller_advance(third), MC2_CELL_STEPPED, "arming");
-        must(mc2_caller_advance(third), MC2_CELL_STEPPED, "linking");
-        must(mc2_release(second), MC2_CELL_LEFT, "releasing");
+        must(mc2_poll_len(second, &reply, &looks), MC2_REFUSED, "a call of who keeps the object");
+        must(mc2_release_step(second), MC2_AGAIN, "leaving before the other has linked itself");
+        must(mc2_acquire_step(third), MC2_STEPPED, "arming");
+        must(mc2_acquire_step(third), MC2_STEPPED, "linking");
+        must(mc2_release(second), MC2_RELEASED, "releasing");
     }
-    must(mc2_call_deq(third, &reply, &looks), MC2_CELL_DONE, "a call at its look");
+    must(mc2_poll_deq(third, &reply, &looks), MC2_DONE, "a call at its look");
     must_be(reply.word == MC2_THREAD && reply.number == FIRST && looks == 2, "its reply, by one look");
 }
 
@@ -111,19 +111,19 @@ static void in_line(void) {
     struct mc2_caller callers[3];
     struct mc2_reply reply = {NO_REPLY, 0};
     uint64_t looks = 0;
-    must(mc2_cells_open(&cell, &object, callers, 3), MC2_CELL_DONE, "opening");
-    must(mc2_queue_enq(&callers[0], FIRST, &reply, &looks), MC2_CELL_DONE, "a call");
-    must(mc2_caller_try(&callers[0]), MC2_CELL_FOUND, "a try");
+    must(mc2_cell_open(&cell, &object, callers, 3), MC2_DONE, "opening");
+    must(mc2_queue_enq(&callers[0], FIRST, &reply, &looks), MC2_DONE, "a call");
+    must(mc2_poll_try_acquire(&callers[0]), MC2_ACQUIRED_BY_LOOK, "a try");
     reply.word = NO_REPLY, looks = 0;
-    must(mc2_call_len(&callers[0], &reply, &looks), MC2_CELL_REFUSED, "a call of who has the object");
-    must(mc2_call_len(&callers[1], &reply, &looks), MC2_CELL_LOOKED, "a call that has to wait");
-    must(mc2_call_enq(&callers[1], FIRST, &reply, &looks), MC2_CELL_LOOKED, "another, once more in vain");
+    must(mc2_poll_len(&callers[0], &reply, &looks), MC2_REFUSED, "a call of who has the object");
+    must(mc2_poll_len(&callers[1], &reply, &looks), MC2_AGAIN, "a call that has to wait");
+    must(mc2_poll_enq(&callers[1], FIRST, &reply, &looks), MC2_AGAIN, "another, once more in vain");
     must_be(looks == 2 && reply.word == NO_REPLY, "two looks, and no reply");
-    must(mc2_release(&callers[0]), MC2_CELL_LEFT, "releasing");
+    must(mc2_release(&callers[0]), MC2_RELEASED, "releasing");
     looks = 0;
     kept(&callers[1], &callers[2]);
-    must(mc2_cells_close(&cell, callers, 3), MC2_CELL_DONE, "closing");
-    must(mc2_cell_free(&cell), MC2_CELL_DONE, "freeing");
+    must(mc2_cell_close(&cell, callers, 3), MC2_DONE, "closing");
+    must(mc2_cell_free_bare(&cell), MC2_DONE, "freeing");
 }
 
 int main(int count, char **words) {

@@ -21,7 +21,7 @@ static void must(uint32_t told, uint32_t wanted, const char *what) {
     if (told == wanted)
         return;
     fprintf(stderr, "c_cells: %s: told %u\n", what, (unsigned)told);
-    exit(told == MC2_CELL_NO_MEMORY ? 3 : 1);
+    exit(told == MC2_NO_MEMORY ? 3 : 1);
 }
 
 static uint32_t draw(struct worker *worker, uint32_t below) {
@@ -32,17 +32,17 @@ static uint32_t draw(struct worker *worker, uint32_t below) {
 static struct mc2_call any_call(struct worker *worker) {
     static const uint32_t first[] = {MC2_ENQ, MC2_ALLOC, MC2_PUT, MC2_READY}, words[] = {4, 3, 3, 5};
     uint32_t word = first[worker->kind] + draw(worker, words[worker->kind]);
-    return mc2_ask(word, draw(worker, 16), draw(worker, 16));
+    return mc2_call_of(word, draw(worker, 16), draw(worker, 16));
 }
 
 /* One call by single steps: it waits for the object, or the caller has it already. */
 static void call_by_steps(struct worker *worker, struct mc2_cell_note *note, int is_held) {
     if (!is_held) {
         uint32_t got = mc2_acquire(worker->caller, &note->looks);
-        must(got == MC2_CELL_ENTERED || got == MC2_CELL_FOUND, 1, "acquire");
+        must(got == MC2_ACQUIRED || got == MC2_ACQUIRED_BY_LOOK, 1, "acquire");
     }
-    note->told = mc2_caller_apply(worker->caller, note->asked.calls, note->replies.replies);
-    must(mc2_release(worker->caller), MC2_CELL_LEFT, "release");
+    note->told = mc2_apply_step(worker->caller, note->asked.calls, note->replies.replies);
+    must(mc2_release(worker->caller), MC2_RELEASED, "release");
 }
 
 static void call_whole(struct worker *worker, struct mc2_cell_note *note) {
@@ -50,17 +50,17 @@ static void call_whole(struct worker *worker, struct mc2_cell_note *note) {
 }
 
 static void try_by_steps(struct worker *worker, struct mc2_cell_note *note) {
-    uint32_t tried = mc2_caller_try(worker->caller);
-    if (tried != MC2_CELL_FOUND)
-        must(tried, MC2_CELL_BUSY, "try");
+    uint32_t tried = mc2_poll_try_acquire(worker->caller);
+    if (tried != MC2_ACQUIRED_BY_LOOK)
+        must(tried, MC2_BUSY, "try");
     note->looks = 1;
-    call_by_steps(worker, note, tried == MC2_CELL_FOUND);
+    call_by_steps(worker, note, tried == MC2_ACQUIRED_BY_LOOK);
 }
 
 static void try_whole(struct worker *worker, struct mc2_cell_note *note) {
     note->looks = 1;
     note->told = mc2_cell_try_call(worker->caller, note->asked.calls, note->replies.replies);
-    if (note->told == MC2_CELL_BUSY)
+    if (note->told == MC2_BUSY)
         call_whole(worker, note);
 }
 
@@ -79,8 +79,8 @@ static void call(struct worker *worker, struct mc2_cell_note *note, uint32_t way
         try_whole(worker, note);
     else
         note->told = mc2_cell_batch(worker->caller, &note->asked, &note->replies, &note->looks);
-    if (note->told != MC2_CELL_FULL)
-        must(note->told, MC2_CELL_DONE, "call");
+    if (note->told != MC2_LOG_FULL)
+        must(note->told, MC2_DONE, "call");
 }
 
 static void *work(void *given) {
@@ -91,14 +91,14 @@ static void *work(void *given) {
 }
 
 static void run(struct mc2_cell *cell, struct worker *workers, uint32_t threads) {
-    must(mc2_cell_close(cell), MC2_CELL_REFUSED, "closing too early");
+    must(mc2_handle_close_cell(cell), MC2_REFUSED, "closing too early");
     for (uint32_t at = 0; at < threads; at++)
         if (pthread_create(&workers[at].thread, NULL, work, &workers[at]) != 0)
-            must(MC2_CELL_NO_MEMORY, MC2_CELL_DONE, "a thread");
+            must(MC2_NO_MEMORY, MC2_DONE, "a thread");
     for (uint32_t at = 0; at < threads; at++)
         pthread_join(workers[at].thread, NULL);
     for (uint32_t at = 0; at < threads; at++)
-        must(mc2_caller_leave(workers[at].caller), MC2_CELL_REFUSED, "leaving without the object");
+        must(mc2_release_step(workers[at].caller), MC2_REFUSED, "leaving without the object");
 }
 
 static void print_record(struct mc2_cell *cell, const struct mc2_object *object, const struct worker *workers, uint32_t threads) {
@@ -128,16 +128,16 @@ int main(int count, char **words) {
     struct mc2_object object = {"shared", (uint32_t)kind, (uint32_t)lock, MC2_MOST_EVENTS, 12, kind == MC2_SCHED ? 4 : 0, NULL};
     for (uint32_t at = 0; at < (uint32_t)threads; at++) {
         struct mc2_cell_note *notes = calloc((size_t)calls, sizeof *notes);
-        must(notes ? MC2_CELL_DONE : MC2_CELL_NO_MEMORY, MC2_CELL_DONE, "memory");
+        must(notes ? MC2_DONE : MC2_NO_MEMORY, MC2_DONE, "memory");
         workers[at] = (struct worker){.caller = &callers[at], .kind = (uint32_t)kind, .calls = (uint32_t)calls, .random = at};
         workers[at].notes = notes;
     }
     struct mc2_cell cell;
-    must(mc2_cells_open(&cell, &object, callers, (uint32_t)threads), MC2_CELL_DONE, "opening");
+    must(mc2_cell_open(&cell, &object, callers, (uint32_t)threads), MC2_DONE, "opening");
     run(&cell, workers, (uint32_t)threads);
-    must(mc2_cells_close(&cell, callers, (uint32_t)threads), MC2_CELL_DONE, "closing");
+    must(mc2_cell_close(&cell, callers, (uint32_t)threads), MC2_DONE, "closing");
     print_record(&cell, &object, workers, (uint32_t)threads);
-    must(mc2_cell_free(&cell), MC2_CELL_DONE, "freeing the cell");
+    must(mc2_cell_free_bare(&cell), MC2_DONE, "freeing the cell");
     for (uint32_t at = 0; at < (uint32_t)threads; at++)
         free(workers[at].notes);
     return 0;

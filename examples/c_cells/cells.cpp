@@ -14,17 +14,17 @@
 
 enum { QUEUE = 12 };
 
-static void must(bool is_so, const char *what, mc2_cell_told told = MC2_CELL_REFUSED) {
+static void must(bool is_so, const char *what, mc2_result told = MC2_REFUSED) {
     if (is_so)
         return;
     std::fprintf(stderr, "cells: %s: told %d\n", what, told);
-    std::exit(told == MC2_CELL_NO_MEMORY ? 3 : 1);
+    std::exit(told == MC2_NO_MEMORY ? 3 : 1);
 }
 
 // Such a call of the queue for each number.
 static mc2_call call_of(uint32_t cpu, uint32_t number) {
     static const uint32_t words[] = {MC2_ENQ, MC2_DEQ, MC2_LEN, MC2_REMOVE, MC2_ENQ};
-    return mc2_ask(words[(number * 7 + cpu * 3) % 5], (number + cpu * 5) % (QUEUE + 1), 0);
+    return mc2_call_of(words[(number * 7 + cpu * 3) % 5], (number + cpu * 5) % (QUEUE + 1), 0);
 }
 
 static void write(mc2_cell_note &it, mc2::expected<mc2_reply> reply) {
@@ -47,7 +47,7 @@ static void call_batch(mc2::caller &caller, mc2_cell_note &it) {
 }
 
 static mc2_cell_note call(mc2::caller &caller, uint32_t cpu, uint32_t number) {
-    mc2_cell_note it = {1, {1, {}}, {}, MC2_CELL_BUSY};
+    mc2_cell_note it = {1, {1, {}}, {}, MC2_BUSY};
     it.asked.count = number % 8 == 3 ? 1 + number / 8 % MC2_MOST_CALLS : 1;
     for (uint32_t at = 0; at < it.asked.count; at++)
         it.asked.calls[at] = call_of(cpu, number + at);
@@ -62,7 +62,7 @@ static mc2_cell_note call(mc2::caller &caller, uint32_t cpu, uint32_t number) {
         call_batch(caller, it);
     if (number % 8 == 5)
         write(it, caller.try_call(it.asked.calls[0]));
-    if (it.told == MC2_CELL_BUSY)
+    if (it.told == MC2_BUSY)
         write(it, caller.call(it.asked.calls[0], &it.looks));
     return it;
 }
@@ -71,7 +71,7 @@ static void print_record(mc2::cell &cell, const mc2_object &object, const std::v
     std::vector<mc2_cell_noted> noted;
     for (const std::vector<mc2_cell_note> &own : notes)
         noted.push_back({own.data(), (uint32_t)own.size()});
-    must(cell.write_record(object, noted.data(), (uint32_t)noted.size(), mc2_to_file, stdout) == MC2_DONE, "writing");
+    must(cell.write_record(object, noted.data(), (uint32_t)noted.size(), mc2_write_to_file, stdout) == MC2_DONE, "writing");
 }
 
 // The callers, that of the least CPU first.
@@ -82,7 +82,7 @@ static std::vector<mc2::caller> callers_of(mc2::cell &cell, uint32_t cpus) {
         must(bool(made), "a caller", made.told());
         callers.insert(callers.begin(), std::move(*made));
     }
-    must(cell.open_caller().told() == MC2_CELL_REFUSED, "a caller too many");
+    must(cell.open_caller().told() == MC2_REFUSED, "a caller too many");
     return callers;
 }
 
@@ -103,12 +103,12 @@ static std::vector<std::vector<mc2_cell_note>> run(std::vector<mc2::caller> &cal
 // All callers go back, in their order and to no other cell, and the cell ends.
 static void end(mc2::cell &cell, mc2::cell &other, std::vector<mc2::caller> &callers) {
     for (mc2::caller &caller : callers) {
-        must(cell.close() == MC2_CELL_REFUSED, "closing too early");
-        must(other.take_back(caller) == MC2_CELL_REFUSED, "taking back the caller of another cell");
-        must(cell.take_back(caller) == MC2_CELL_DONE, "taking back");
-        must(!caller.acquire() && caller.call(mc2_ask(MC2_LEN, 0, 0)).told() == MC2_CELL_REFUSED, "a caller that is back");
+        must(cell.close() == MC2_REFUSED, "closing too early");
+        must(other.take_back(caller) == MC2_REFUSED, "taking back the caller of another cell");
+        must(cell.take_back(caller) == MC2_DONE, "taking back");
+        must(!caller.acquire() && caller.call(mc2_call_of(MC2_LEN, 0, 0)).told() == MC2_REFUSED, "a caller that is back");
     }
-    must(cell.close() == MC2_CELL_DONE, "closing");
+    must(cell.close() == MC2_DONE, "closing");
 }
 
 int main(int count, char **words) {
@@ -120,7 +120,7 @@ int main(int count, char **words) {
         return 2;
     }
     mc2_object object = {"shared", MC2_QUEUE, is_mcs ? (uint32_t)MC2_MCS : (uint32_t)MC2_TICKET, MC2_MOST_EVENTS, QUEUE, 0, NULL};
-    must(mc2::cell::open(object, MC2_MOST_CPUS + 1).told() == MC2_CELL_BAD_OPENING, "opening for too many CPUs");
+    must(mc2::cell::open(object, MC2_MOST_CPUS + 1).told() == MC2_BAD_PARAM, "opening for too many CPUs");
     mc2::expected<mc2::cell> cell = mc2::cell::open(object, (uint32_t)cpus), other = mc2::cell::open(object, 1);
     must(cell && other, "opening", cell.told());
     std::vector<mc2::caller> callers = callers_of(*cell, (uint32_t)cpus);

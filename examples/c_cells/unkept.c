@@ -23,14 +23,14 @@ static void must(uint32_t told, uint32_t wanted, const char *what) {
     if (told == wanted)
         return;
     fprintf(stderr, "unkept: %s: told %u\n", what, (unsigned)told);
-    exit(told == MC2_CELL_NO_MEMORY ? 3 : 1);
+    exit(told == MC2_NO_MEMORY ? 3 : 1);
 }
 
 static struct mc2_reply call(struct mc2_caller *caller, uint32_t word, uint32_t thread) {
     struct mc2_call asked = {word, thread, 0};
     struct mc2_reply reply = {0, 0};
     uint64_t looks;
-    must(mc2_cell_call(caller, &asked, &reply, &looks), MC2_CELL_DONE, "call");
+    must(mc2_cell_call(caller, &asked, &reply, &looks), MC2_DONE, "call");
     return reply;
 }
 
@@ -49,7 +49,7 @@ static long after_calls(struct worker *workers, uint32_t calls) {
     for (int at = 0; at < THREADS; at++) {
         workers[at].calls = calls;
         if (pthread_create(&workers[at].thread, NULL, work, &workers[at]) != 0)
-            must(MC2_CELL_NO_MEMORY, MC2_CELL_DONE, "a thread");
+            must(MC2_NO_MEMORY, MC2_DONE, "a thread");
     }
     for (int at = 0; at < THREADS; at++)
         pthread_join(workers[at].thread, NULL);
@@ -62,25 +62,25 @@ static long after_calls(struct worker *workers, uint32_t calls) {
 static void open_wrongly(struct mc2_object object) {
     struct mc2_cell cell;
     object.events = MC2_MOST_EVENTS + 1;
-    must(mc2_cell_open(&cell, &object, THREADS), MC2_CELL_BAD_OPENING, "opening for too many events");
-    must(mc2_cell_free(&cell), MC2_CELL_DONE, "freeing what has nothing");
+    must(mc2_cell_open_bare(&cell, &object, THREADS), MC2_BAD_PARAM, "opening for too many events");
+    must(mc2_cell_free_bare(&cell), MC2_DONE, "freeing what has nothing");
     object.events = 0;
     object.size = 0;
-    must(mc2_cell_open(&cell, &object, THREADS), MC2_CELL_BAD_OPENING, "opening a queue of no threads");
-    must(mc2_cell_free(&cell), MC2_CELL_DONE, "freeing what has nothing");
+    must(mc2_cell_open_bare(&cell, &object, THREADS), MC2_BAD_PARAM, "opening a queue of no threads");
+    must(mc2_cell_free_bare(&cell), MC2_DONE, "freeing what has nothing");
 }
 
 /* The cell ends, and no step of its log is there. */
 static void end(struct mc2_cell *cell, struct worker *workers) {
     struct mc2_logged_step told;
     for (int at = 0; at < THREADS; at++) {
-        must(mc2_cell_take_back(cell, &workers[at].caller), MC2_CELL_DONE, "taking back");
-        must(mc2_caller_free(&workers[at].caller), MC2_CELL_DONE, "freeing a caller");
+        must(mc2_handle_return_caller(cell, &workers[at].caller), MC2_DONE, "taking back");
+        must(mc2_caller_free(&workers[at].caller), MC2_DONE, "freeing a caller");
     }
-    must(mc2_cell_step(cell, 0, 0, &told), MC2_CELL_NOT_THERE, "a step of a cell that is open");
-    must(mc2_cell_close(cell), MC2_CELL_DONE, "closing");
-    must(mc2_cell_step(cell, 0, 0, &told), MC2_CELL_NOT_THERE, "the first step of a log that isn't kept");
-    must(mc2_cell_free(cell), MC2_CELL_DONE, "freeing the cell");
+    must(mc2_handle_read_step(cell, 0, 0, &told), MC2_NOT_FOUND, "a step of a cell that is open");
+    must(mc2_handle_close_cell(cell), MC2_DONE, "closing");
+    must(mc2_handle_read_step(cell, 0, 0, &told), MC2_NOT_FOUND, "the first step of a log that isn't kept");
+    must(mc2_cell_free_bare(cell), MC2_DONE, "freeing the cell");
 }
 
 int main(int count, char **words) {
@@ -94,9 +94,9 @@ int main(int count, char **words) {
     struct mc2_object object = {"shared", MC2_QUEUE, is_mcs ? MC2_MCS : MC2_TICKET, 0, QUEUE, 0, NULL};
     struct mc2_cell cell;
     open_wrongly(object);
-    must(mc2_cell_open(&cell, &object, THREADS), MC2_CELL_DONE, "opening");
+    must(mc2_cell_open_bare(&cell, &object, THREADS), MC2_DONE, "opening");
     for (int at = THREADS; at-- > 0;)
-        must(mc2_caller_open(&cell, &workers[at].caller), MC2_CELL_DONE, "a caller");
+        must(mc2_caller_open(&cell, &workers[at].caller), MC2_DONE, "a caller");
     uint32_t half = (uint32_t)calls / (2 * THREADS);
     long before = after_calls(workers, half), grown = after_calls(workers, (uint32_t)calls / THREADS - half) - before;
     struct mc2_reply left = call(&workers[0].caller, MC2_LEN, 0);

@@ -46,7 +46,7 @@ static void refuse(const char *what, int status) {
 
 static void must(int result) {
     if (result != MC2_DONE)
-        refuse(mc2_says(result), 3);
+        refuse(mc2_result_text(result), 3);
 }
 
 static void await(unsigned wanted) {
@@ -66,10 +66,10 @@ static void do_work(struct work *work) {
     struct lock *lock = &locks[work->object];
     ck_spinlock_mcs_context_t node;
     work->looks = acquire(lock, &node);
-    int room = mc2_room(&recorder, work->object, work->cpu);
+    int room = mc2_recorder_room(&recorder, work->object, work->cpu);
     if (room == MC2_DONE) {
         do_calls(work);
-        must(mc2_event(&recorder, work->object, work->cpu, work->steps, work->done));
+        must(mc2_recorder_event(&recorder, work->object, work->cpu, work->steps, work->done));
     }
     release(lock, &node);
     if (room != MC2_LOG_FULL)
@@ -78,7 +78,7 @@ static void do_work(struct work *work) {
 
 // The CPU's own entry. Nothing was done where the log had no room.
 static void note(const struct work *work) {
-    must(mc2_entry(&recorder, work->object, work->cpu, work->looks, work->calls, work->asked, work->steps, work->done));
+    must(mc2_recorder_entry(&recorder, work->object, work->cpu, work->looks, work->calls, work->asked, work->steps, work->done));
 }
 
 // Lets CPU 1 do its part of the opening now, if it hasn't.
@@ -89,7 +89,7 @@ static void let_the_other_in(void) {
 }
 
 static int note_event(const struct work *work) {
-    return mc2_event(&recorder, work->object, work->cpu, work->steps, work->done);
+    return mc2_recorder_event(&recorder, work->object, work->cpu, work->steps, work->done);
 }
 
 // Whether this is the first deq that took a thread. It is asked under the queue's lock.
@@ -106,7 +106,7 @@ static void do_wrongly(struct work *work) {
     ck_spinlock_mcs_context_t node;
     if (fault != UNLOCKED)
         work->looks = acquire(lock, &node);
-    int room = mc2_room(&recorder, work->object, work->cpu);
+    int room = mc2_recorder_room(&recorder, work->object, work->cpu);
     if (fault == EARLY)
         release(lock, &node);
     if (room == MC2_DONE)
@@ -138,8 +138,8 @@ static void do_one(unsigned cpu, unsigned object, struct mc2_call call) {
 
 // CPU 0 does two sections on two objects, CPU 1 both of its own between them, and CPU 0 notes the second first.
 static void do_two_swapped(void) {
-    struct work first = {.object = QUEUE, .asked = 1, .calls = {mc2_ask(MC2_ENQ, 3, 0)}};
-    struct work second = {.object = POOL, .asked = 1, .calls = {mc2_ask(MC2_ALLOC, 0, 0)}};
+    struct work first = {.object = QUEUE, .asked = 1, .calls = {mc2_call_of(MC2_ENQ, 3, 0)}};
+    struct work second = {.object = POOL, .asked = 1, .calls = {mc2_call_of(MC2_ALLOC, 0, 0)}};
     do_work(&first);
     let_the_other_in();
     do_work(&second);
@@ -154,16 +154,16 @@ static void do_opening(unsigned cpu) {
         if (fault == SWAPPED)
             do_two_swapped();
         else {
-            do_one(0, QUEUE, mc2_ask(MC2_ENQ, 3, 0));
-            do_one(0, QUEUE, mc2_ask(MC2_DEQ, 0, 0));
+            do_one(0, QUEUE, mc2_call_of(MC2_ENQ, 3, 0));
+            do_one(0, QUEUE, mc2_call_of(MC2_DEQ, 0, 0));
         }
         if (cpus > 1)
             let_the_other_in();
         atomic_store(&stage, 3);
     } else if (cpu == 1) {
         await(1);
-        do_one(1, QUEUE, mc2_ask(MC2_DEQ, 0, 0));
-        do_one(1, POOL, mc2_ask(MC2_LEFT, 0, 0));
+        do_one(1, QUEUE, mc2_call_of(MC2_DEQ, 0, 0));
+        do_one(1, POOL, mc2_call_of(MC2_LEFT, 0, 0));
         atomic_store(&stage, 2);
     }
     await(3);
@@ -186,7 +186,7 @@ static struct mc2_call any_call(unsigned object, uint64_t *seed) {
     unsigned of = below(64, seed) > 0 ? object : below(OBJECTS, seed);
     unsigned word = words[of][chances[below(8, seed)]];
     unsigned bound = of == QUEUE ? THREADS + 1 : of == CONSOLE ? 256 : below(16, seed) > 0 ? 2 : OWNERS + 1;
-    return mc2_ask(word, below(bound, seed), below(PAGES + 1, seed));
+    return mc2_call_of(word, below(bound, seed), below(PAGES + 1, seed));
 }
 
 static struct work any_work(unsigned cpu, uint64_t *seed) {
@@ -261,7 +261,7 @@ static void open_objects(enum lock_kind kind) {
             refuse("no mutex", 3);
     queue.drops = fault == DROPS;
     queue.in_the_middle = fault == UNLOCKED || fault == EARLY ? let_the_other_in : NULL;
-    must(mc2_open(&recorder, objects, OBJECTS, cpus, sections + MORE_ENTRIES));
+    must(mc2_recorder_open(&recorder, objects, OBJECTS, cpus, sections + MORE_ENTRIES));
 }
 
 int main(int count, char **words) {
@@ -271,8 +271,8 @@ int main(int count, char **words) {
     for (unsigned cpu = 0; cpu < cpus; cpu++)
         pthread_join(threads[cpu], NULL);
     // What enqs have lost shows here at the latest.
-    do_one(0, QUEUE, mc2_ask(MC2_LEN, 0, 0));
-    must(mc2_write(&recorder, stdout));
-    mc2_close(&recorder);
+    do_one(0, QUEUE, mc2_call_of(MC2_LEN, 0, 0));
+    must(mc2_recorder_write(&recorder, stdout));
+    mc2_recorder_close(&recorder);
     return 0;
 }

@@ -24,7 +24,7 @@ static const char *const fault_words[] = {"right", "unlocked", "early", "unnoted
 static enum fault fault;
 static unsigned cpus = 4, sections = 1000, events = MC2_MOST_EVENTS, pieces = MOST_PIECES;
 static struct lock locks[NOTED_OBJECTS];
-static struct mc2_turns turns[NOTED_OBJECTS];
+static struct mc2_sequence turns[NOTED_OBJECTS];
 static struct mc2_notes notes[MC2_MOST_CPUS];
 static union mc2_note_piece memory[MC2_MOST_CPUS][MOST_PIECES];
 // How far the opening has come.
@@ -45,7 +45,7 @@ static void refuse(const char *what, int status) {
 
 static void must(int result) {
     if (result != MC2_DONE)
-        refuse(mc2_says(result), 3);
+        refuse(mc2_result_text(result), 3);
 }
 
 static void await(unsigned wanted) {
@@ -66,7 +66,7 @@ static void do_work(unsigned cpu, struct work *work) {
     ck_spinlock_mcs_context_t node;
     if (fault != UNLOCKED)
         work->looks = acquire(lock, &node);
-    work->turn = mc2_take_turn(&turns[work->object], &notes[cpu]);
+    work->turn = mc2_next_seq(&turns[work->object], &notes[cpu]);
     if (fault == EARLY)
         release(lock, &node);
     do_calls(work);
@@ -77,7 +77,7 @@ static void do_work(unsigned cpu, struct work *work) {
 // The CPU's own note. Nothing is noted of what got no turn.
 static void note(unsigned cpu, const struct work *work) {
     int noted = mc2_note(&notes[cpu], work->object, work->turn, work->looks, work->steps, work->asked, work->done);
-    must(work->turn == MC2_NO_TURN && noted == MC2_LOG_FULL ? MC2_DONE : noted);
+    must(work->turn == MC2_NO_SEQ && noted == MC2_LOG_FULL ? MC2_DONE : noted);
 }
 
 static struct work work_of(unsigned object, struct mc2_call call) {
@@ -99,7 +99,7 @@ static void let_the_other_in(void) {
 }
 
 static void do_two_swapped(void) {
-    struct work first = work_of(QUEUE, mc2_ask(MC2_ENQ, 3, 0)), second = work_of(QUEUE, mc2_ask(MC2_DEQ, 0, 0));
+    struct work first = work_of(QUEUE, mc2_call_of(MC2_ENQ, 3, 0)), second = work_of(QUEUE, mc2_call_of(MC2_DEQ, 0, 0));
     do_work(0, &first);
     do_work(0, &second);
     note(0, &second);
@@ -112,16 +112,16 @@ static void do_opening(unsigned cpu) {
     if (cpu == 0) {
         if (fault == SWAPPED)
             do_two_swapped();
-        do_one(0, QUEUE, mc2_ask(MC2_ENQ, 3, 0));
-        do_one(0, QUEUE, mc2_ask(MC2_DEQ, 0, 0));
+        do_one(0, QUEUE, mc2_call_of(MC2_ENQ, 3, 0));
+        do_one(0, QUEUE, mc2_call_of(MC2_DEQ, 0, 0));
         let_the_other_in();
         atomic_store(&stage, 3);
     } else if (cpu == 1) {
         await(1);
-        struct work unnoted = work_of(POOL, mc2_ask(MC2_LEFT, 0, 0));
+        struct work unnoted = work_of(POOL, mc2_call_of(MC2_LEFT, 0, 0));
         if (fault == UNNOTED)
             do_work(1, &unnoted);
-        do_one(1, QUEUE, mc2_ask(MC2_DEQ, 0, 0));
+        do_one(1, QUEUE, mc2_call_of(MC2_DEQ, 0, 0));
         atomic_store(&stage, 2);
     }
     await(3);
@@ -140,7 +140,7 @@ static struct work any_work(uint64_t *seed) {
                                                      {MC2_ALLOC, MC2_FREE, MC2_LEFT, MC2_ALLOC}};
     struct work work = {.object = below(NOTED_OBJECTS, seed), .asked = 1 + below(MOST_ASKED, seed)};
     for (unsigned at = 0; at < work.asked; at++)
-        work.steps[at].call = mc2_ask(words[work.object][below(4, seed)], below(THREADS + 1, seed), below(PAGES + 1, seed));
+        work.steps[at].call = mc2_call_of(words[work.object][below(4, seed)], below(THREADS + 1, seed), below(PAGES + 1, seed));
     return work;
 }
 
@@ -186,7 +186,7 @@ static void open_all(void) {
     for (unsigned at = 0; at < NOTED_OBJECTS; at++) {
         if (!lock_open(&locks[at], TICKET))
             refuse("no lock", 3);
-        must(mc2_open_turns(&turns[at], events));
+        must(mc2_open_sequence(&turns[at], events));
     }
     for (unsigned cpu = 0; cpu < cpus; cpu++)
         must(mc2_open_notes(&notes[cpu], memory[cpu], pieces));
@@ -195,9 +195,9 @@ static void open_all(void) {
 static int write_record(void) {
     const struct mc2_object objects[] = {{"threads", MC2_QUEUE, MC2_TICKET, events, THREADS, 0, NULL},
                                          {"pages", MC2_POOL, MC2_TICKET, events, PAGES, 0, NULL}};
-    struct mc2_turns *const each[] = {&turns[QUEUE], &turns[POOL]};
+    struct mc2_sequence *const each[] = {&turns[QUEUE], &turns[POOL]};
     const struct mc2_noted noted = {objects, each, NOTED_OBJECTS, notes, cpus};
-    return mc2_write_notes(&noted, mc2_to_file, stdout);
+    return mc2_write_notes(&noted, mc2_write_to_file, stdout);
 }
 
 int main(int count, char **words) {

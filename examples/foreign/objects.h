@@ -44,71 +44,71 @@ static unsigned queue_place(unsigned thread) {
 static struct mc2_step queue_enq(struct mc2_call call) {
     unsigned count = get(&queue.count);
     if (call.first >= THREADS)
-        return mc2_answer(call, MC2_BADTHREAD, 0);
+        return mc2_step_of(call, MC2_BADTHREAD, 0);
     if (queue_place(call.first) < count || count >= THREADS)
-        return mc2_answer(call, MC2_ALREADY, 0);
+        return mc2_step_of(call, MC2_ALREADY, 0);
     set(&queue.enqs, get(&queue.enqs) + 1);
     if (queue.drops && get(&queue.enqs) % 100 == 0)
-        return mc2_answer(call, MC2_OK, 0);
+        return mc2_step_of(call, MC2_OK, 0);
     set(&queue.ring[(get(&queue.first) + count) % THREADS], call.first);
     set(&queue.count, count + 1);
-    return mc2_answer(call, MC2_OK, 0);
+    return mc2_step_of(call, MC2_OK, 0);
 }
 
 static struct mc2_step queue_deq(struct mc2_call call) {
     unsigned count = get(&queue.count), first = get(&queue.first);
     unsigned thread = get(&queue.ring[first % THREADS]);
     if (count == 0)
-        return mc2_answer(call, MC2_EMPTY, 0);
+        return mc2_step_of(call, MC2_EMPTY, 0);
     if (queue.in_the_middle)
         queue.in_the_middle();
     set(&queue.first, first + 1);
     set(&queue.count, count - 1);
-    return mc2_answer(call, MC2_THREAD, thread);
+    return mc2_step_of(call, MC2_THREAD, thread);
 }
 
 // Takes a thread out, and moves those behind it up by one.
 static struct mc2_step queue_remove(struct mc2_call call) {
     unsigned first = get(&queue.first), count = get(&queue.count), place = queue_place(call.first);
     if (call.first >= THREADS)
-        return mc2_answer(call, MC2_BADTHREAD, 0);
+        return mc2_step_of(call, MC2_BADTHREAD, 0);
     if (place >= count)
-        return mc2_answer(call, MC2_ABSENT, 0);
+        return mc2_step_of(call, MC2_ABSENT, 0);
     for (; place + 1 < count; place++)
         set(&queue.ring[(first + place) % THREADS], get(&queue.ring[(first + place + 1) % THREADS]));
     set(&queue.count, count - 1);
-    return mc2_answer(call, MC2_OK, 0);
+    return mc2_step_of(call, MC2_OK, 0);
 }
 
 static struct mc2_step pool_alloc(struct mc2_call call) {
     unsigned page = 0;
     if (call.first >= OWNERS)
-        return mc2_answer(call, MC2_BADOWNER, 0);
+        return mc2_step_of(call, MC2_BADOWNER, 0);
     while (page < PAGES && get(&pool.taken[page]) != 0)
         page++;
     if (page == PAGES)
-        return mc2_answer(call, MC2_NONE, 0);
+        return mc2_step_of(call, MC2_NONE, 0);
     set(&pool.taken[page], call.first + 1);
-    return mc2_answer(call, MC2_PAGE, page);
+    return mc2_step_of(call, MC2_PAGE, page);
 }
 
 static struct mc2_step pool_free(struct mc2_call call) {
     if (call.first >= OWNERS)
-        return mc2_answer(call, MC2_BADOWNER, 0);
+        return mc2_step_of(call, MC2_BADOWNER, 0);
     if (call.second >= PAGES)
-        return mc2_answer(call, MC2_BADPAGE, 0);
+        return mc2_step_of(call, MC2_BADPAGE, 0);
     unsigned taken = get(&pool.taken[call.second]);
     if (taken != call.first + 1)
-        return mc2_answer(call, taken == 0 ? MC2_NOTTAKEN : MC2_NOTYOURS, 0);
+        return mc2_step_of(call, taken == 0 ? MC2_NOTTAKEN : MC2_NOTYOURS, 0);
     set(&pool.taken[call.second], 0);
-    return mc2_answer(call, MC2_OK, 0);
+    return mc2_step_of(call, MC2_OK, 0);
 }
 
 static struct mc2_step pool_left(struct mc2_call call) {
     unsigned left = 0;
     for (unsigned page = 0; page < PAGES; page++)
         left += get(&pool.taken[page]) == 0;
-    return mc2_answer(call, MC2_COUNT, left);
+    return mc2_step_of(call, MC2_COUNT, left);
 }
 
 static struct mc2_step console_put(struct mc2_call call) {
@@ -117,16 +117,16 @@ static struct mc2_step console_put(struct mc2_call call) {
     unsigned oldest = get(place);
     set(place, call.first);
     set(count < BYTES ? &console.count : &console.first, count < BYTES ? count + 1 : first + 1);
-    return count < BYTES ? mc2_answer(call, MC2_OK, 0) : mc2_answer(call, MC2_DROPPED, oldest);
+    return count < BYTES ? mc2_step_of(call, MC2_OK, 0) : mc2_step_of(call, MC2_DROPPED, oldest);
 }
 
 static struct mc2_step console_get(struct mc2_call call) {
     unsigned first = get(&console.first), count = get(&console.count);
     if (count == 0)
-        return mc2_answer(call, MC2_EMPTY, 0);
+        return mc2_step_of(call, MC2_EMPTY, 0);
     set(&console.first, first + 1);
     set(&console.count, count - 1);
-    return mc2_answer(call, MC2_BYTE, get(&console.ring[first % BYTES]));
+    return mc2_step_of(call, MC2_BYTE, get(&console.ring[first % BYTES]));
 }
 
 static bool is_call_on(unsigned object, unsigned word) {
@@ -137,7 +137,7 @@ static bool is_call_on(unsigned object, unsigned word) {
 // What the object answers. The caller has its lock.
 static struct mc2_step answer(unsigned object, struct mc2_call call) {
     if (!is_call_on(object, call.word))
-        return mc2_answer(call, MC2_BADCALL, 0);
+        return mc2_step_of(call, MC2_BADCALL, 0);
     switch (call.word) {
     case MC2_ENQ:
         return queue_enq(call);
@@ -146,7 +146,7 @@ static struct mc2_step answer(unsigned object, struct mc2_call call) {
     case MC2_REMOVE:
         return queue_remove(call);
     case MC2_LEN:
-        return mc2_answer(call, MC2_COUNT, get(&queue.count));
+        return mc2_step_of(call, MC2_COUNT, get(&queue.count));
     case MC2_ALLOC:
         return pool_alloc(call);
     case MC2_FREE:
@@ -158,6 +158,6 @@ static struct mc2_step answer(unsigned object, struct mc2_call call) {
     case MC2_GET:
         return console_get(call);
     default:
-        return mc2_answer(call, MC2_COUNT, get(&console.count));
+        return mc2_step_of(call, MC2_COUNT, get(&console.count));
     }
 }

@@ -18,8 +18,8 @@ struct job {
     int merges;
     unsigned char *text;
     size_t length;
-    struct mc2_turn *room;
-    struct mc2_told told;
+    struct mc2_entry_id *room;
+    struct mc2_report told;
 };
 
 static void fail(const char *what) {
@@ -60,7 +60,7 @@ static void *judge(void *at) {
 }
 
 static void print(const struct job *job) {
-    const struct mc2_told *told = &job->told;
+    const struct mc2_report *told = &job->told;
     printf("%u %llu %llu %llu\n", (unsigned)told->kind, (unsigned long long)told->first, (unsigned long long)told->second,
            (unsigned long long)told->third);
     if (!job->merges || (told->kind != MC2_SOUND && told->kind != MC2_CYCLE))

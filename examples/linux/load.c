@@ -60,8 +60,8 @@ static struct mc2_cell cells[OBJECTS];
 static struct mc2_caller callers[OBJECTS][NUMBERS];
 static struct tasklet_struct tasklets[MOST_LINUX_CPUS];
 static struct mc2_notes notes[NUMBERS];
-static struct mc2_turns turns[OBJECTS];
-static struct mc2_turns *const turns_of_each[OBJECTS] = {&turns[0], &turns[1], &turns[2], &turns[3]};
+static struct mc2_sequence turns[OBJECTS];
+static struct mc2_sequence *const turns_of_each[OBJECTS] = {&turns[0], &turns[1], &turns[2], &turns[3]};
 static struct mc2_noted noted = {objects, turns_of_each, 0, notes, 0};
 static atomic_t ready;
 static DECLARE_COMPLETION(done);
@@ -79,7 +79,7 @@ static u32 draw(u32 number, u32 below) {
 static struct mc2_call any_call(u32 object, u32 number) {
     static const u32 first[] = {MC2_ENQ, MC2_ALLOC, MC2_PUT, MC2_READY}, words[] = {4, 3, 3, 5};
     u32 some = draw(number, way == CELLS ? words[object] : PLAIN_WORDS);
-    return mc2_ask(first[object] + some, draw(number, THREADS), draw(number, THREADS));
+    return mc2_call_of(first[object] + some, draw(number, THREADS), draw(number, THREADS));
 }
 
 // A call by a caller of the cell, and the turn that it was. A number has a turn for each event of a log that both have begun
@@ -87,19 +87,19 @@ static struct mc2_call any_call(u32 object, u32 number) {
 static bool call_cell(u32 object, u32 number, enum how how, struct mc2_step *step, u64 *looks, u32 *turn) {
     struct mc2_caller *caller = &callers[object][number];
     struct mc2_reply reply = {MC2_REPLY_WORDS, 0};
-    u32 got = how == WAITS ? mc2_acquire(caller, looks) : MC2_STEP(mc2_caller_try(caller)), told;
-    for (; how == TRIES_ON && got == MC2_CELL_BUSY; got = MC2_STEP(mc2_caller_try(caller)))
+    u32 got = how == WAITS ? mc2_acquire(caller, looks) : MC2_IRQ_OFF(mc2_poll_try_acquire(caller)), told;
+    for (; how == TRIES_ON && got == MC2_BUSY; got = MC2_IRQ_OFF(mc2_poll_try_acquire(caller)))
         cpu_relax();
-    if (got == MC2_CELL_BUSY)
+    if (got == MC2_BUSY)
         return false;
-    own[number].wrong += got != MC2_CELL_ENTERED && got != MC2_CELL_FOUND;
-    *turn = mc2_take_turn(&turns[object], &notes[number]);
+    own[number].wrong += got != MC2_ACQUIRED && got != MC2_ACQUIRED_BY_LOOK;
+    *turn = mc2_next_seq(&turns[object], &notes[number]);
     if (!stays && how == WAITS && *turn % CALLS_TO_YIELD == 0)
         yield();
-    told = MC2_STEP(mc2_caller_apply(caller, &step->call, &reply));
-    own[number].wrong += told != (*turn == MC2_NO_TURN ? MC2_CELL_FULL : MC2_CELL_DONE);
-    own[number].wrong += mc2_release(caller) != MC2_CELL_LEFT;
-    *step = mc2_answer(step->call, reply.word, reply.number);
+    told = MC2_IRQ_OFF(mc2_apply_step(caller, &step->call, &reply));
+    own[number].wrong += told != (*turn == MC2_NO_SEQ ? MC2_LOG_FULL : MC2_DONE);
+    own[number].wrong += mc2_release(caller) != MC2_RELEASED;
+    *step = mc2_step_of(step->call, reply.word, reply.number);
     return true;
 }
 
@@ -110,7 +110,7 @@ static bool call_plain(u32 number, enum how how, struct mc2_step *step, u32 *tur
         raw_spin_lock_irqsave(&spinlock, flags);
     else if (way == SPIN && !raw_spin_trylock_irqsave(&spinlock, flags))
         return false;
-    *turn = mc2_take_turn(&turns[0], &notes[number]);
+    *turn = mc2_next_seq(&turns[0], &notes[number]);
     *step = plain_answer(number, step->call);
     if (way == SPIN)
         raw_spin_unlock_irqrestore(&spinlock, flags);
@@ -120,7 +120,7 @@ static bool call_plain(u32 number, enum how how, struct mc2_step *step, u32 *tur
 // Calls some object once, and notes that, when the object is given back. A try that finds another there does nothing. Nor does a
 // number whose memory is full: without a turn it would end the notes of that object for all others too.
 static void call(u32 number, enum how how) {
-    u32 object = draw(number, object_count), turn = MC2_NO_TURN;
+    u32 object = draw(number, object_count), turn = MC2_NO_SEQ;
     struct mc2_step step = {any_call(object, number), MC2_REPLY_WORDS, 0};
     u64 looks = 1;
     bool is_done;
@@ -131,7 +131,7 @@ static void call(u32 number, enum how how) {
     is_done = way == CELLS ? call_cell(object, number, how, &step, &looks, &turn) : call_plain(number, how, &step, &turn);
     own[number].done += is_done;
     own[number].busy += !is_done;
-    if (is_done && turn != MC2_NO_TURN)
+    if (is_done && turn != MC2_NO_SEQ)
         own[number].wrong += mc2_note(&notes[number], object, turn, looks, &step, 1, 1) != MC2_DONE;
 }
 
@@ -231,13 +231,13 @@ static void end_interrupts(void) {
 static int open_notes(void) {
     size_t pieces = 2 * (size_t)calls + MC2_NOTE_PIECES;
     for (u32 number = 0; number < numbers; number++) {
-        struct mc2_taken memory = rattle_alloc(pieces * sizeof(union mc2_note_piece), 0);
+        struct mc2_allocation memory = rattle_alloc(pieces * sizeof(union mc2_note_piece), 0);
         if (!memory.is_there || mc2_open_notes(&notes[number], memory.at, pieces) != MC2_DONE)
             return -ENOMEM;
         own[number].random = number + 1;
     }
     for (u32 object = 0; object < object_count; object++)
-        if (mc2_open_turns(&turns[object], objects[object].events) != MC2_DONE)
+        if (mc2_open_sequence(&turns[object], objects[object].events) != MC2_DONE)
             return -EINVAL;
     return 0;
 }
@@ -251,9 +251,9 @@ static void free_notes(void) {
 
 static int open_cells(void) {
     for (u32 object = 0; object < object_count && way == CELLS; object++) {
-        u32 told = mc2_cells_open(&cells[object], &objects[object], callers[object], numbers);
-        if (told != MC2_CELL_DONE)
-            return told == MC2_CELL_NO_MEMORY ? -ENOMEM : -EINVAL;
+        u32 told = mc2_cell_open(&cells[object], &objects[object], callers[object], numbers);
+        if (told != MC2_DONE)
+            return told == MC2_NO_MEMORY ? -ENOMEM : -EINVAL;
     }
     return 0;
 }
@@ -263,9 +263,9 @@ static u32 close_cells(void) {
     struct mc2_logged_step told;
     u32 wrong = 0;
     for (u32 object = 0; object < object_count && way == CELLS; object++) {
-        wrong += mc2_cells_close(&cells[object], callers[object], numbers) != MC2_CELL_DONE;
-        wrong += turns[object].next > 0 && mc2_cell_step(&cells[object], turns[object].next - 1, 0, &told) != MC2_CELL_DONE;
-        wrong += mc2_cell_step(&cells[object], turns[object].next, 0, &told) != MC2_CELL_NOT_THERE;
+        wrong += mc2_cell_close(&cells[object], callers[object], numbers) != MC2_DONE;
+        wrong += turns[object].next > 0 && mc2_handle_read_step(&cells[object], turns[object].next - 1, 0, &told) != MC2_DONE;
+        wrong += mc2_handle_read_step(&cells[object], turns[object].next, 0, &told) != MC2_NOT_FOUND;
     }
     for (u32 number = 0; number < numbers; number++)
         wrong += own[number].wrong;
@@ -293,7 +293,7 @@ static int load(void) {
         say_calls(wrong);
     }
     for (u32 object = 0; object < OBJECTS; object++)
-        mc2_cells_free(&cells[object], callers[object], numbers);
+        mc2_cell_free(&cells[object], callers[object], numbers);
     return failure ?: wrong ? -EIO : 0;
 }
 

@@ -10,24 +10,24 @@
 #define MC2_TYPES "linux/types.h"
 
 // No interrupt comes within a step of the library, and so no handler and no softirq.
-#define MC2_STEP(call) \
+#define MC2_IRQ_OFF(call) \
     ({ \
         unsigned long mc2_flags; \
-        uint32_t mc2_told; \
+        uint32_t mc2_report; \
         local_irq_save(mc2_flags); \
-        mc2_told = (call); \
+        mc2_report = (call); \
         local_irq_restore(mc2_flags); \
-        mc2_told; \
+        mc2_report; \
     })
 
 // What opens, closes and frees calls the kernel's heap, which may sleep.
-#define MC2_OPENING(call) (call)
+#define MC2_ALLOCATING(call) (call)
 
 #include "mc2_cells.h"
 
 // A block of memory, and whether it is there; and one is given back, or NULL.
-struct mc2_taken { bool is_there; void *at; };
-struct mc2_taken rattle_alloc(size_t size, size_t align);
+struct mc2_allocation { bool is_there; void *at; };
+struct mc2_allocation rattle_alloc(size_t size, size_t align);
 void rattle_dealloc(void *at);
 
 // How many blocks were taken and not given back; and from 1 on, which is refused, counted down.

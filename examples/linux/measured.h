@@ -27,7 +27,7 @@ static noinline size_t stack_used(void) {
     ({ \
         bool mc2_is_done; \
         mark_stack(); \
-        mc2_is_done = (call) == MC2_CELL_DONE; \
+        mc2_is_done = (call) == MC2_DONE; \
         most = max(most, stack_used()); \
         mc2_is_done; \
     })
@@ -41,10 +41,10 @@ static int say_stack(void) {
     bool is_right = true;
     for (u32 at = 0; at < OBJECTS && is_right; at++) {
         batch.calls[0] = any_call(at, 0);
-        is_right = USES(openings, mc2_cells_open(&measured, &objects[at], of_measured, 1)) &&
+        is_right = USES(openings, mc2_cell_open(&measured, &objects[at], of_measured, 1)) &&
                    USES(whole, mc2_cell_call(of_measured, &batch.calls[0], &reply, &looks)) &&
                    USES(batches, mc2_cell_batch(of_measured, &batch, &replies, &looks));
-        mc2_cells_free(&measured, of_measured, 1);
+        mc2_cell_free(&measured, of_measured, 1);
     }
     pr_notice("stack of openings %zu, of whole calls %zu, of batches %zu, of %lu\n", openings, whole, batches, THREAD_SIZE);
     return is_right ? 0 : -ENOMEM;
@@ -64,11 +64,11 @@ static void call_timed(u32 number, bool puts) {
     if (way == CELLS) {
         preempt_disable();
         told = puts ? mc2_queue_enq(caller, number % SIZE, &reply, &looks) : mc2_queue_deq(caller, &reply, &looks);
-        own[number].wrong += told != MC2_CELL_DONE;
+        own[number].wrong += told != MC2_DONE;
         preempt_enable();
     } else {
         raw_spin_lock_irqsave(&spinlock, flags);
-        plain_answer(number, mc2_ask(puts ? MC2_ENQ : MC2_DEQ, number % SIZE, 0));
+        plain_answer(number, mc2_call_of(puts ? MC2_ENQ : MC2_DEQ, number % SIZE, 0));
         raw_spin_unlock_irqrestore(&spinlock, flags);
     }
 }
@@ -79,10 +79,10 @@ static int time_one(const char *name, u32 lock_word) {
     u64 longest = 1;
     int failure;
     object.lock = lock_word;
-    if (way == CELLS && mc2_cells_open(&measured, &object, of_measured, cpus) != MC2_CELL_DONE)
+    if (way == CELLS && mc2_cell_open(&measured, &object, of_measured, cpus) != MC2_DONE)
         return -ENOMEM;
     failure = run_all();
-    mc2_cells_free(&measured, of_measured, cpus);
+    mc2_cell_free(&measured, of_measured, cpus);
     for (u32 cpu = 0; cpu < cpus; cpu++) {
         longest = max(longest, own[cpu].took);
         failure = failure ?: own[cpu].wrong ? -EIO : 0;

@@ -12,14 +12,14 @@ uint mc2_refused;
 
 // Up to a page kmalloc aligns blocks whose size is a power of two to that size, and kvmalloc aligns longer ones to more. The second
 // word is never NULL.
-struct mc2_taken rattle_alloc(size_t size, size_t align) {
+struct mc2_allocation rattle_alloc(size_t size, size_t align) {
     size_t wanted = max_t(size_t, size > 0 ? size : align, ALIGNED);
     bool is_refused = mc2_refused > 0 && --mc2_refused == 0;
     void *at = is_refused ? NULL : kvmalloc(wanted > PAGE_SIZE ? wanted : roundup_pow_of_two(wanted), GFP_KERNEL);
     WARN_ON_ONCE(irqs_disabled() || (uintptr_t)at % ALIGNED != 0);
     if (at)
         atomic_long_inc(&mc2_blocks);
-    return (struct mc2_taken){at != NULL, at ? at : &mc2_blocks};
+    return (struct mc2_allocation){at != NULL, at ? at : &mc2_blocks};
 }
 
 void rattle_dealloc(void *at) {

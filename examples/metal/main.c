@@ -8,7 +8,7 @@
 #include "machine.h"
 
 // No interrupt comes within a step of the library, unless MASKED is 0: then they come anywhere.
-#define MC2_STEP(call) \
+#define MC2_IRQ_OFF(call) \
     ({ \
         uint64_t before = MASKED ? interrupts_save() : 0; \
         uint32_t answer = (call); \
@@ -46,8 +46,8 @@ static const struct mc2_object objects[4] = {
 static struct mc2_cell cells[OBJECTS];
 static struct mc2_caller callers[OBJECTS][NUMBERS];
 static struct mc2_notes notes[NUMBERS];
-static struct mc2_turns turns[4];
-static struct mc2_turns *const turns_of_each[4] = {&turns[0], &turns[1], &turns[2], &turns[3]};
+static struct mc2_sequence turns[4];
+static struct mc2_sequence *const turns_of_each[4] = {&turns[0], &turns[1], &turns[2], &turns[3]};
 static const struct mc2_noted noted = {objects, turns_of_each, OBJECTS, notes, NUMBERS};
 static uint32_t cpus_ready, cpus_done, random[NUMBERS];
 // How many calls of each number had no turn, as the object's log was full. They did nothing.
@@ -65,7 +65,7 @@ static uint32_t draw(uint32_t number, uint32_t below) {
 static struct mc2_call any_call(uint32_t object, uint32_t number) {
     static const uint32_t first[] = {MC2_ENQ, MC2_ALLOC, MC2_PUT, MC2_READY}, words[] = {4, 3, 3, 5};
     uint32_t word = first[object] + draw(number, words[object]);
-    return mc2_ask(word, draw(number, 18), draw(number, 18));
+    return mc2_call_of(word, draw(number, 18), draw(number, 18));
 }
 
 // Does the call by a caller that has the object, and answers the CPU's turn there. If the object's log is full there is none:
@@ -73,10 +73,10 @@ static struct mc2_call any_call(uint32_t object, uint32_t number) {
 // step can't be noted.
 static uint32_t apply(uint32_t object, uint32_t number, struct mc2_step *step) {
     struct mc2_reply reply = {MC2_REPLY_WORDS, 0};
-    uint32_t turn = mc2_take_turn(&turns[object], &notes[number]);
-    uint32_t told = MC2_STEP(mc2_caller_apply(&callers[object][number], &step->call, &reply));
-    *step = mc2_answer(step->call, reply.word, reply.number);
-    wrong += told != (turn == MC2_NO_TURN ? MC2_CELL_FULL : MC2_CELL_DONE);
+    uint32_t turn = mc2_next_seq(&turns[object], &notes[number]);
+    uint32_t told = MC2_IRQ_OFF(mc2_apply_step(&callers[object][number], &step->call, &reply));
+    *step = mc2_step_of(step->call, reply.word, reply.number);
+    wrong += told != (turn == MC2_NO_SEQ ? MC2_LOG_FULL : MC2_DONE);
     return turn;
 }
 
@@ -88,14 +88,14 @@ static void call(uint32_t object, uint32_t number, bool waits) {
     uint64_t looks = 1;
     if (!mc2_has_note_room(&notes[number]))
         return;
-    uint32_t got = waits ? mc2_acquire(caller, &looks) : MC2_STEP(mc2_caller_try(caller));
-    if (got == MC2_CELL_BUSY)
+    uint32_t got = waits ? mc2_acquire(caller, &looks) : MC2_IRQ_OFF(mc2_poll_try_acquire(caller));
+    if (got == MC2_BUSY)
         return;
-    must(got == MC2_CELL_ENTERED || got == MC2_CELL_FOUND, "acquire", got);
+    must(got == MC2_ACQUIRED || got == MC2_ACQUIRED_BY_LOOK, "acquire", got);
     uint32_t turn = apply(object, number, &step);
     uint32_t left = mc2_release(caller);
-    must(left == MC2_CELL_LEFT, "release", left);
-    if (turn == MC2_NO_TURN)
+    must(left == MC2_RELEASED, "release", left);
+    if (turn == MC2_NO_SEQ)
         without_turn[number]++;
     else
         wrong += mc2_note(&notes[number], object, turn, looks, &step, 1, 1) != MC2_DONE;
@@ -129,7 +129,7 @@ static void work(uint32_t cpu) {
 }
 
 static void *take(size_t size) {
-    struct mc2_taken taken = rattle_alloc(size, 16);
+    struct mc2_allocation taken = rattle_alloc(size, 16);
     must(taken.is_there, "memory", size);
     return taken.at;
 }
@@ -144,18 +144,18 @@ static void open_notes(void) {
 // An object has as many turns as the library's own log of it may have events.
 static void open_turns(void) {
     for (uint32_t object = 0; object < OBJECTS; object++) {
-        int opened = mc2_open_turns(&turns[object], objects[object].events);
+        int opened = mc2_open_sequence(&turns[object], objects[object].events);
         must(opened == MC2_DONE, "opening turns", (uint64_t)opened);
     }
 }
 
 static void open_all(void) {
     for (uint32_t object = 0; object < OBJECTS; object++) {
-        uint32_t told = mc2_cell_open(&cells[object], &objects[object], NUMBERS);
-        must(told == MC2_CELL_DONE, "opening a cell", told);
+        uint32_t told = mc2_cell_open_bare(&cells[object], &objects[object], NUMBERS);
+        must(told == MC2_DONE, "opening a cell", told);
         for (uint32_t number = NUMBERS; number-- > 0;) {
             told = mc2_caller_open(&cells[object], &callers[object][number]);
-            must(told == MC2_CELL_DONE, "opening a caller", told);
+            must(told == MC2_DONE, "opening a caller", told);
         }
     }
     for (uint32_t number = 0; number < NUMBERS; number++)
@@ -168,10 +168,10 @@ static bool is_noted(uint32_t object, uint32_t turn, const struct mc2_logged_ste
     struct mc2_call call;
     struct mc2_step step;
     const union mc2_note_piece *note = NULL;
-    if (told->cpu >= NUMBERS || mc2_pass_turn(&notes[told->cpu], &places[told->cpu], object, turn, &note) != 1 ||
+    if (told->cpu >= NUMBERS || mc2_priv_count_seq(&notes[told->cpu], &places[told->cpu], object, turn, &note) != 1 ||
         note->head.asked != 1 || note->head.done != 1)
         return false;
-    mc2_read_note(note, &call, &step);
+    mc2_priv_read_note(note, &call, &step);
     return call.word == told->step.call.word && step.reply == told->step.reply && step.number == told->step.number;
 }
 
@@ -180,21 +180,21 @@ static void compare_log(uint32_t object) {
     size_t places[NUMBERS] = {0};
     struct mc2_logged_step told;
     uint32_t turn = 0;
-    for (; mc2_cell_step(&cells[object], turn, 0, &told) == MC2_CELL_DONE; turn++)
+    for (; mc2_handle_read_step(&cells[object], turn, 0, &told) == MC2_DONE; turn++)
         wrong += !is_noted(object, turn, &told, places);
     wrong += turn != turns[object].next;
 }
 
 static void end_cell(uint32_t object) {
     for (uint32_t number = 0; number < NUMBERS; number++) {
-        uint32_t told = mc2_cell_take_back(&cells[object], &callers[object][number]);
-        must(told == MC2_CELL_DONE, "taking a caller back", told);
-        must(mc2_caller_free(&callers[object][number]) == MC2_CELL_DONE, "freeing a caller", number);
+        uint32_t told = mc2_handle_return_caller(&cells[object], &callers[object][number]);
+        must(told == MC2_DONE, "taking a caller back", told);
+        must(mc2_caller_free(&callers[object][number]) == MC2_DONE, "freeing a caller", number);
     }
-    uint32_t closed = mc2_cell_close(&cells[object]);
-    must(closed == MC2_CELL_DONE, "closing a cell", closed);
+    uint32_t closed = mc2_handle_close_cell(&cells[object]);
+    must(closed == MC2_DONE, "closing a cell", closed);
     compare_log(object);
-    must(mc2_cell_free(&cells[object]) == MC2_CELL_DONE, "freeing a cell", object);
+    must(mc2_cell_free_bare(&cells[object]) == MC2_DONE, "freeing a cell", object);
 }
 
 // Says how much was noted, and forgets it.
@@ -229,8 +229,8 @@ static void judge(void) {
     enum { MOST = NUMBERS * ENTRIES, ROOM = 128 * MOST };
     struct text text = {take(ROOM), 0, ROOM};
     must(mc2_write_notes(&noted, text_take, &text) == MC2_DONE, "the record as a text", text.length);
-    struct mc2_turn *order = take(MOST * sizeof *order);
-    struct mc2_told audited, merged;
+    struct mc2_entry_id *order = take(MOST * sizeof *order);
+    struct mc2_report audited, merged;
     stack_forget(0);
     mc2_audit((const uint8_t *)text.at, text.length, &audited);
     mc2_merge((const uint8_t *)text.at, text.length, order, MOST, &merged);
@@ -251,7 +251,7 @@ static void end_all(size_t free_before) {
     int written = mc2_write_notes(&noted, serial_take, NULL);
     must(written == MC2_DONE, "the record", (uint64_t)written);
     end_notes();
-    size_t blocks, left = mc2_heap_free(&blocks);
+    size_t blocks, left = mc2_heap_available(&blocks);
     for (uint32_t cpu = 0; cpu < CPUS; cpu++)
         say_both("cpu #: # interrupts\n", cpu, interrupts[cpu]);
     say_both("heap: # bytes lost, # blocks free\n", free_before - left, blocks);
@@ -277,8 +277,8 @@ static void try_whole_calls(struct mc2_object object, size_t *of_calls, size_t *
     struct mc2_reply reply;
     uint64_t looks;
     object.events = 0;
-    must(mc2_cell_open(&cell, &object, 1) == MC2_CELL_DONE, "opening a cell without a log", object.kind);
-    must(mc2_caller_open(&cell, &caller) == MC2_CELL_DONE, "opening its caller", object.kind);
+    must(mc2_cell_open_bare(&cell, &object, 1) == MC2_DONE, "opening a cell without a log", object.kind);
+    must(mc2_caller_open(&cell, &caller) == MC2_DONE, "opening its caller", object.kind);
     for (uint32_t at = 0; at < MC2_MOST_CALLS; at++)
         batch.calls[at] = any_call(object.kind, 0);
     stack_forget(0);
@@ -287,8 +287,8 @@ static void try_whole_calls(struct mc2_object object, size_t *of_calls, size_t *
     note_stack(of_calls);
     uint32_t together = mc2_cell_batch(&caller, &batch, &replies, &looks);
     note_stack(of_batches);
-    must(called == MC2_CELL_DONE && tried == called && together == called, "whole calls", object.kind);
-    must(mc2_caller_free(&caller) == MC2_CELL_DONE && mc2_cell_free(&cell) == MC2_CELL_DONE, "freeing them", object.kind);
+    must(called == MC2_DONE && tried == called && together == called, "whole calls", object.kind);
+    must(mc2_caller_free(&caller) == MC2_DONE && mc2_cell_free_bare(&cell) == MC2_DONE, "freeing them", object.kind);
 }
 
 // Says the most that they take with any object behind any lock. The calls that CPUs make later are single steps.
@@ -308,7 +308,7 @@ static size_t begin(void) {
     size_t blocks;
     serial_open();
     mc2_heap_add(kernel_end, (size_t)(memory_end - kernel_end));
-    size_t free_before = mc2_heap_free(&blocks);
+    size_t free_before = mc2_heap_available(&blocks);
     open_notes();
     open_turns();
     stack_forget(0);

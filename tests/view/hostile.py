@@ -111,7 +111,7 @@ def view_refused(kind, text, refusal, environment, folder):
 def view_tried(program, steps, draw):
     """What is wrong with what `view` makes of all these and of right ones: for each a name, and that or None."""
     environment = {**os.environ, "MC2": shlex.quote(str(program)), "MC2_STEPS": shlex.quote(str(steps))}
-    view, own = ROOT / "view/view", ROOT / "examples/own/records/runq_lower_first"
+    view, own = ROOT / "view/view", ROOT / "examples/custom/records/runq_lower_first"
     tries = [(kind, *it) for kind in ("record", "settings", "scripts") for it in REFUSED[kind]]
     for kind, text, refusal in tries:
         # (what is short is for `steps` alone, if it is no record)

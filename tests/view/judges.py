@@ -15,9 +15,9 @@ from view.model import Model
 from view.verdict import by_judge
 from models import Wrong, check_model, same
 
-OWN = ROOT / "examples/own/records"
+OWN = ROOT / "examples/custom/records"
 RIGHT = OWN / "runq_right"
-# What examples/own/own.c says of runq_lower_first (examples/own/README.md).
+# What examples/custom/custom.c says of runq_lower_first (examples/custom/README.md).
 WITNESS = """unsound: log ready event 6 step 1: wrong step
 a thread of a higher priority waits:
   event 1: 0 put 3 1 = ok

@@ -198,7 +198,7 @@ def mutant(texts, chosen):
     return text
 
 
-# ---- Faults planted in a buffer and in counts of references, by the models of examples/own/more_models.h. Each record is of
+# ---- Faults planted in a buffer and in counts of references, by the models of examples/custom/more_models.h. Each record is of
 # thousands of steps by four CPUs, and goes wrong late.
 CPUS, STEPS, ROOM, SLOTS, MOST_REFS = 4, 6000, 8, 16, 4
 FAULTS = {"buffer": ("lost", "overtaken", "one too many", "torn", "twice"),

@@ -2,7 +2,7 @@
 from common import ROOT, run
 
 FOLDER = ROOT / "tools/second_judge"
-# Has the functions of include/mc2_own.h.
+# Has the functions of include/mc2_custom.h.
 SECOND_JUDGE = FOLDER / "second_judge.c"
 
 

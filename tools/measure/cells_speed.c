@@ -6,7 +6,7 @@
 
    KIND    name-ticket, name-mcs: a cell of crates/cells, by calls with names (mc2_queue_enq, mc2_queue_deq)
            cell-ticket, cell-mcs: the same by whole calls (mc2_cell_call)
-           steps-ticket, steps-mcs: the same by single steps (mc2_acquire, mc2_caller_apply, mc2_release)
+           steps-ticket, steps-mcs: the same by single steps (mc2_acquire, mc2_apply_step, mc2_release)
            mutex: a queue in C with a log, the least that one would write, behind a pthread_mutex_t
            ck-ticket, ck-mcs: the same queue behind a lock of Concurrency Kit, with WITH_CK
    unkept  no kind keeps a log
@@ -81,20 +81,20 @@ static int by_name(uint32_t cpu, const struct mc2_call *call, struct mc2_reply *
     uint64_t looks;
     struct mc2_caller *caller = &callers[cpu];
     if (call->word == MC2_ENQ)
-        return mc2_queue_enq(caller, call->first, reply, &looks) == MC2_CELL_DONE;
-    return mc2_queue_deq(caller, reply, &looks) == MC2_CELL_DONE;
+        return mc2_queue_enq(caller, call->first, reply, &looks) == MC2_DONE;
+    return mc2_queue_deq(caller, reply, &looks) == MC2_DONE;
 }
 
 static int by_cell(uint32_t cpu, const struct mc2_call *call, struct mc2_reply *reply) {
     uint64_t looks;
-    return mc2_cell_call(&callers[cpu], call, reply, &looks) == MC2_CELL_DONE;
+    return mc2_cell_call(&callers[cpu], call, reply, &looks) == MC2_DONE;
 }
 
 static int by_steps(uint32_t cpu, const struct mc2_call *call, struct mc2_reply *reply) {
     uint64_t looks;
     mc2_acquire(&callers[cpu], &looks);
-    uint32_t told = mc2_caller_apply(&callers[cpu], call, reply);
-    return mc2_release(&callers[cpu]) == MC2_CELL_LEFT && told == MC2_CELL_DONE;
+    uint32_t told = mc2_apply_step(&callers[cpu], call, reply);
+    return mc2_release(&callers[cpu]) == MC2_RELEASED && told == MC2_DONE;
 }
 
 static int by_mutex(uint32_t cpu, const struct mc2_call *call, struct mc2_reply *reply) {
@@ -140,7 +140,7 @@ static void *work(void *given) {
     uint32_t cpu = (uint32_t)(size_t)given;
     pthread_barrier_wait(&start);
     for (long at = 0; at < calls; at++) {
-        struct mc2_call asked = mc2_ask(at % 2 ? MC2_DEQ : MC2_ENQ, at % 2 ? 0 : cpu, 0);
+        struct mc2_call asked = mc2_call_of(at % 2 ? MC2_DEQ : MC2_ENQ, at % 2 ? 0 : cpu, 0);
         struct mc2_reply reply;
         if (!call(cpu, &asked, &reply))
             exit(1);
@@ -150,10 +150,10 @@ static void *work(void *given) {
 
 static void open_cell(int lock, uint32_t threads) {
     struct mc2_object object = {"shared", MC2_QUEUE, (uint32_t)lock, is_kept ? MC2_MOST_EVENTS : 0, QUEUE, 0, NULL};
-    if (mc2_cell_open(&cell, &object, threads) != MC2_CELL_DONE)
+    if (mc2_cell_open_bare(&cell, &object, threads) != MC2_DONE)
         exit(1);
     for (uint32_t cpu = threads; cpu-- > 0;)
-        if (mc2_caller_open(&cell, &callers[cpu]) != MC2_CELL_DONE)
+        if (mc2_caller_open(&cell, &callers[cpu]) != MC2_DONE)
             exit(1);
 }
 

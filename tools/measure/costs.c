@@ -61,10 +61,10 @@ static struct mc2_call random_call(uint32_t kind, uint32_t size) {
     state ^= state << 13, state ^= state >> 7, state ^= state << 17;
     uint32_t way = state >> 60, channel = (state >> 57) % CHANNELS, one = (uint32_t)(state >> 24) % size;
     if (kind == MC2_QUEUE)
-        return mc2_ask(way < 8 ? MC2_ENQ : way < 13 ? MC2_DEQ : MC2_REMOVE, one, 0);
+        return mc2_call_of(way < 8 ? MC2_ENQ : way < 13 ? MC2_DEQ : MC2_REMOVE, one, 0);
     if (kind == MC2_POOL)
-        return mc2_ask(way < 7 ? MC2_ALLOC : way < 15 ? MC2_FREE : MC2_LEFT, OWNER, one);
-    return way < 9 ? mc2_ask(way < 5 ? MC2_READY : MC2_NEXT, one, 0) : mc2_ask(way < 14 ? MC2_SLEEP : MC2_WAKE, channel, one);
+        return mc2_call_of(way < 7 ? MC2_ALLOC : way < 15 ? MC2_FREE : MC2_LEFT, OWNER, one);
+    return way < 9 ? mc2_call_of(way < 5 ? MC2_READY : MC2_NEXT, one, 0) : mc2_call_of(way < 14 ? MC2_SLEEP : MC2_WAKE, channel, one);
 }
 
 int main(int count, char **words) {
@@ -75,13 +75,13 @@ int main(int count, char **words) {
     struct mc2_object object = {"one", kind, MC2_TICKET, 0, size, kind == MC2_SCHED ? CHANNELS : 0, NULL};
     struct mc2_cell cell;
     struct mc2_caller caller;
-    if (mc2_cell_open(&cell, &object, 1) != MC2_CELL_DONE || mc2_caller_open(&cell, &caller) != MC2_CELL_DONE)
+    if (mc2_cell_open_bare(&cell, &object, 1) != MC2_DONE || mc2_caller_open(&cell, &caller) != MC2_DONE)
         return 1;
     uint64_t sum = 0, looks, is_own = strcmp(words[2], "own") == 0;
     for (; calls > 0; calls--) {
         struct mc2_call call = random_call(kind, size);
         struct mc2_reply reply = is_own ? (struct mc2_reply){0, 0} : plain(call, size);
-        if (is_own && mc2_cell_call(&caller, &call, &reply, &looks) != MC2_CELL_DONE)
+        if (is_own && mc2_cell_call(&caller, &call, &reply, &looks) != MC2_DONE)
             return 1;
         refused += reply.word >= MC2_BADTHREAD;
         sum += reply.word >= MC2_BADTHREAD ? 0 : reply.number;

@@ -152,7 +152,7 @@ static bool take_params(const uint8_t *kind, const uint64_t *numbers, uint64_t c
                  [CONSOLE] = {"console", MOST_BYTES, 0, 0, 0},
                  [SCHED] = {"sched", MOST_THREADS, 1, 1, MOST_CHANNELS}};
     uint32_t at = QUEUE;
-    while (at < KINDS && !mc2_own_is_word(kind, kinds[at].word))
+    while (at < KINDS && !mc2_priv_is_word(kind, kinds[at].word))
         at++;
     params->kind = (enum kind)at;
     return at < KINDS && count == 1 + kinds[at].others && take_numbers(numbers, 1, 1, kinds[at].most, &params->size) &&

@@ -56,13 +56,13 @@ static int read_text(const char *name, struct text *text) {
 /* ---- Verdicts */
 
 static const char *name_of_object(const struct record *r, uint64_t x, char *name) {
-    memcpy(name, &r->names[x], MC2_OWN_LETTERS);
-    name[MC2_OWN_LETTERS] = 0;
+    memcpy(name, &r->names[x], MC2_CUSTOM_LETTERS);
+    name[MC2_CUSTOM_LETTERS] = 0;
     return name;
 }
 
 static void describe(const struct record *r, char *out, size_t room) {
-    char name[MC2_OWN_LETTERS + 1];
+    char name[MC2_CUSTOM_LETTERS + 1];
     unsigned long long of = r->fault.first, place = r->fault.second + 1, step = r->fault.third + 1;
     switch (r->fault.kind) {
     case MC2_TOO_LONG:
@@ -115,7 +115,7 @@ struct start {
 };
 
 static void make_starts(const struct record *r, struct start starts[64][16]) {
-    char name[MC2_OWN_LETTERS + 1];
+    char name[MC2_CUSTOM_LETTERS + 1];
     for (uint32_t cpu = 0; cpu < r->cpus; cpu++)
         for (uint32_t x = 0; x < r->objects; x++)
             starts[cpu][x].length = (size_t)snprintf(starts[cpu][x].bytes, sizeof starts[cpu][x].bytes, "%u %s ", (unsigned)cpu,
@@ -144,8 +144,8 @@ static int print_order(const struct record *r, const struct front *front) {
 }
 
 static int refuse_cycle(const struct record *r, const struct front *front) {
-    struct mc2_turn room[64];
-    struct mc2_told told;
+    struct mc2_entry_id room[64];
+    struct mc2_report told;
     tell_cycle(r, front, room, 64, &told);
     fprintf(stderr, "mc2: E11 cycle:");
     for (uint64_t at = 0; at < told.first; at++) {

@@ -5,7 +5,7 @@
 #include "record.h"
 #include <stdlib.h>
 
-enum { SET_WORDS = (IS_OWN ? MC2_OWN_CPUS : 64) / 64 };
+enum { SET_WORDS = (IS_OWN ? MC2_CUSTOM_CPUS : 64) / 64 };
 
 /* A set of CPUs. */
 struct set {
@@ -14,9 +14,9 @@ struct set {
 
 struct front {
     /* How many entries of each CPU were placed, and how many events of each object. */
-    uint64_t at[MC2_OWN_CPUS], placed[MC2_OWN_OBJECTS];
+    uint64_t at[MC2_CUSTOM_CPUS], placed[MC2_CUSTOM_OBJECTS];
     /* Whose next entry can come, and who waits until an object's log is at its end. */
-    struct set ready, waiting[MC2_OWN_OBJECTS];
+    struct set ready, waiting[MC2_CUSTOM_OBJECTS];
     /* The CPU of each place. */
     uint8_t order[];
 };
@@ -34,7 +34,7 @@ static uint32_t take_least(struct set *set) {
     while (at < SET_WORDS && set->bits[at] == 0)
         at++;
     if (at == SET_WORDS)
-        return MC2_OWN_CPUS;
+        return MC2_CUSTOM_CPUS;
     uint32_t bit = (uint32_t)__builtin_ctzll(set->bits[at]);
     set->bits[at] &= set->bits[at] - 1;
     return 64 * at + bit;
@@ -50,7 +50,7 @@ static bool next_entry(const struct record *r, const struct front *front, uint32
 /* The CPU of the object's next event, or that of no CPU. */
 static uint32_t next_of(const struct record *r, const struct front *front, uint32_t x) {
     size_t at = r->begins[x] + front->placed[x];
-    return at < r->begins[x + 1] ? r->events[at].cpu : MC2_OWN_CPUS;
+    return at < r->begins[x + 1] ? r->events[at].cpu : MC2_CUSTOM_CPUS;
 }
 
 /* The CPU's next entry can come, or waits for its object. */
@@ -60,7 +60,7 @@ static void look(const struct record *r, struct front *front, uint32_t cpu) {
         return;
     uint32_t x = entry % NO_ROOM_BIT, next = next_of(r, front, x);
     bool has_no_room = entry & NO_ROOM_BIT;
-    if (next == (has_no_room ? MC2_OWN_CPUS : cpu))
+    if (next == (has_no_room ? MC2_CUSTOM_CPUS : cpu))
         add(&front->ready, cpu);
     else if (has_no_room)
         add(&front->waiting[x], cpu);
@@ -74,7 +74,7 @@ static void place(const struct record *r, struct front *front, uint32_t cpu) {
     if (!(entry & NO_ROOM_BIT)) {
         front->placed[entry]++;
         uint32_t next = next_of(r, front, entry);
-        if (next == MC2_OWN_CPUS)
+        if (next == MC2_CUSTOM_CPUS)
             add_all(&front->ready, &front->waiting[entry]);
         else if (next != cpu && next_entry(r, front, next, &other) && other == entry)
             add(&front->ready, next);
@@ -92,7 +92,7 @@ static struct front *put_in_order(const struct record *r, size_t *count) {
     memset(front, 0, sizeof *front);
     for (uint32_t cpu = 0; cpu < r->cpus; cpu++)
         look(r, front, cpu);
-    for (uint32_t cpu = take_least(&front->ready); cpu < MC2_OWN_CPUS; cpu = take_least(&front->ready)) {
+    for (uint32_t cpu = take_least(&front->ready); cpu < MC2_CUSTOM_CPUS; cpu = take_least(&front->ready)) {
         front->order[(*count)++] = (uint8_t)cpu;
         place(r, front, cpu);
     }
@@ -129,8 +129,8 @@ static uint32_t least_of_cycle(const struct record *r, const struct front *front
     return least;
 }
 
-static void tell_cycle(const struct record *r, const struct front *front, struct mc2_turn *room, size_t turns,
-                       struct mc2_told *told) {
+static void tell_cycle(const struct record *r, const struct front *front, struct mc2_entry_id *room, size_t turns,
+                       struct mc2_report *told) {
     uint32_t least = least_of_cycle(r, front), cpu = least, count = 1;
     while ((cpu = waits_for(r, front, cpu)) != least)
         count++;

@@ -16,7 +16,7 @@ struct limits {
 
 static const struct limits limits_of[] = {[1] = {"record 1\n", 8, 16, 65536, 10000},
                                           [2] = {"record 2\n", 64, 16, 65536, 10000},
-                                          [3] = {"record 3\n", MC2_OWN_CPUS, MC2_OWN_OBJECTS, UINT32_MAX, UINT32_MAX}};
+                                          [3] = {"record 3\n", MC2_CUSTOM_CPUS, MC2_CUSTOM_OBJECTS, UINT32_MAX, UINT32_MAX}};
 
 struct event {
     /* Where its steps begin in the text, their bytes and their number, its CPU, and the next event of the same CPU in the same
@@ -36,17 +36,17 @@ struct record {
     uint64_t line;
     struct limits most;
     uint32_t form, cpus, objects, refusing;
-    struct name names[MC2_OWN_OBJECTS], refuses[MC2_OWN_REFUSING];
+    struct name names[MC2_CUSTOM_OBJECTS], refuses[MC2_CUSTOM_REFUSING];
     uint16_t slots[SLOTS];
-    uint64_t limits[MC2_OWN_OBJECTS], steps[MC2_OWN_OBJECTS];
+    uint64_t limits[MC2_CUSTOM_OBJECTS], steps[MC2_CUSTOM_OBJECTS];
     /* All events, and where those of each log begin. */
     struct event *events;
-    size_t event_count, event_room, begins[MC2_OWN_OBJECTS + 1];
+    size_t event_count, event_room, begins[MC2_CUSTOM_OBJECTS + 1];
     /* For each object and each CPU its next event there that no entry has. */
     uint32_t *next;
     /* All entries, if they are kept, and where those of each CPU begin. */
     uint16_t *entries;
-    size_t entry_count, entry_room, firsts[MC2_OWN_CPUS + 1];
+    size_t entry_count, entry_room, firsts[MC2_CUSTOM_CPUS + 1];
     bool keeps_entries, has_no_memory;
     /* What the caller says of a record 3. */
     const uint64_t *right;
@@ -55,10 +55,10 @@ struct record {
     struct params params[16];
     struct object object;
     /* The first fault. */
-    struct mc2_told fault;
+    struct mc2_report fault;
 };
 
-static void tell(struct mc2_told *told, uint32_t kind, uint64_t first, uint64_t second, uint64_t third) {
+static void tell(struct mc2_report *told, uint32_t kind, uint64_t first, uint64_t second, uint64_t third) {
     told->kind = kind;
     told->first = first;
     told->second = second;

@@ -1,57 +1,57 @@
-/* The functions of include/mc2_own.h in plain C. They are linked where the proved library isn't built, judge beside it in
+/* The functions of include/mc2_custom.h in plain C. They are linked where the proved library isn't built, judge beside it in
    tests/c/judge, and are measured beside it in tools/measure/judges. Nothing here is proved.
 
-   For a line that is no event mc2_own_line may write a part of one, which the caller must not read. */
+   For a line that is no event mc2_custom_line may write a part of one, which the caller must not read. */
 #define IS_OWN 1
 #include "judge.h"
 #include "order.h"
 
 /* ---- Lines */
 
-static const uint8_t *said_in(const uint8_t *p, struct mc2_own_said *it) {
+static const uint8_t *said_in(const uint8_t *p, struct mc2_custom_term *it) {
     memset(it->numbers, 0, sizeof it->numbers);
-    return numbers(word_in(p, it->word), MC2_OWN_NUMBERS, &it->count, it->numbers);
+    return numbers(word_in(p, it->word), MC2_CUSTOM_NUMBERS, &it->count, it->numbers);
 }
 
-static bool event_in(const uint8_t *p, struct mc2_own_line *line) {
+static bool event_in(const uint8_t *p, struct mc2_custom_line *line) {
     uint64_t cpu;
-    p = space(number(p, 0, MC2_OWN_CPUS - 1, &cpu));
+    p = space(number(p, 0, MC2_CUSTOM_CPUS - 1, &cpu));
     line->cpu = (uint32_t)cpu;
     line->count = 0;
-    for (const uint8_t *more = p; line->count == 0 || (more && line->count < MC2_OWN_CALLS); more = mark(p, ';')) {
-        struct mc2_own_step *step = &line->steps[line->count++];
+    for (const uint8_t *more = p; line->count == 0 || (more && line->count < MC2_CUSTOM_CALLS); more = mark(p, ';')) {
+        struct mc2_custom_step *step = &line->steps[line->count++];
         p = said_in(mark(said_in(more, &step->call), '='), &step->reply);
     }
     return end_of(p) != NULL;
 }
 
-void mc2_own_line(const uint8_t *text, size_t length, size_t at, struct mc2_own_line *line) {
+void mc2_custom_line(const uint8_t *text, size_t length, size_t at, struct mc2_custom_line *line) {
     const uint8_t *end = at < length ? memchr(text + at, '\n', length - at) : NULL;
-    uint8_t lock[MC2_OWN_LETTERS];
-    line->kind = MC2_OWN_NONE;
+    uint8_t lock[MC2_CUSTOM_LETTERS];
+    line->kind = MC2_CUSTOM_NONE;
     if (!end)
         return;
     line->next = (uint64_t)(end - text) + 1;
-    line->kind = MC2_OWN_OTHER;
+    line->kind = MC2_CUSTOM_OTHER;
     if (sorts[text[at]] == DIGIT && event_in(text + at, line))
-        line->kind = MC2_OWN_EVENT;
+        line->kind = MC2_CUSTOM_EVENT;
     else if (text[at] == 'l' && log_in(text + at, line))
-        line->kind = MC2_OWN_LOG;
+        line->kind = MC2_CUSTOM_LOG;
     else if (text[at] == 'o' && object_in(text + at, line, lock))
-        line->kind = MC2_OWN_OBJECT;
+        line->kind = MC2_CUSTOM_OBJECT;
 }
 
 /* ---- The kinds that mc2 has */
 
 /* Whether this is the word of the entry, with numbers in its range. */
-static bool fits(const struct mc2_own_said *said, const struct spelling *it) {
+static bool fits(const struct mc2_custom_term *said, const struct spelling *it) {
     for (uint64_t at = 0; at < said->count; at++)
         if (said->numbers[at] > it->most)
             return false;
     return it->length > 0 && said->word[it->length] == 0 && said->count == it->numbers;
 }
 
-static bool is_right_step(struct object *object, const struct mc2_own_step *step) {
+static bool is_right_step(struct object *object, const struct mc2_custom_step *step) {
     uint32_t word = find_word(call_words, first_calls, step->call.word);
     struct call call = {word, step->call.numbers[0], step->call.numbers[1]};
     if (!fits(&step->call, &call_words[word]))
@@ -61,42 +61,42 @@ static bool is_right_step(struct object *object, const struct mc2_own_step *step
     return fits(&step->reply, &reply_words[word]) && are_same_replies(answer(object, &call), reply);
 }
 
-static uint64_t count_log(const uint8_t *text, size_t length, struct mc2_own_line *line, struct object *object) {
+static uint64_t count_log(const uint8_t *text, size_t length, struct mc2_custom_line *line, struct object *object) {
     uint64_t right = 0, in_event = 0;
     for (uint64_t events = line->limit; events > 0; events--) {
-        mc2_own_line(text, length, (size_t)line->next, line);
-        for (in_event = 0; line->kind == MC2_OWN_EVENT && in_event < line->count; in_event++)
+        mc2_custom_line(text, length, (size_t)line->next, line);
+        for (in_event = 0; line->kind == MC2_CUSTOM_EVENT && in_event < line->count; in_event++)
             if (!is_right_step(object, &line->steps[in_event]))
                 return right + in_event;
-        if (line->kind != MC2_OWN_EVENT)
+        if (line->kind != MC2_CUSTOM_EVENT)
             return right;
         right += in_event;
     }
     return right;
 }
 
-void mc2_own_kernel(const uint8_t *text, size_t length, size_t object, size_t log, struct mc2_told *told) {
-    struct mc2_own_line line;
+void mc2_custom_kernel(const uint8_t *text, size_t length, size_t object, size_t log, struct mc2_report *told) {
+    struct mc2_custom_line line;
     struct params params;
     struct object *it = NULL;
     tell(told, MC2_NO_MODEL, 0, 0, 0);
-    mc2_own_line(text, length, object, &line);
-    if (line.kind != MC2_OWN_OBJECT || !take_params(line.object_kind, line.numbers, line.count, &params))
+    mc2_custom_line(text, length, object, &line);
+    if (line.kind != MC2_CUSTOM_OBJECT || !take_params(line.object_kind, line.numbers, line.count, &params))
         return;
-    mc2_own_line(text, length, log, &line);
-    if (line.kind != MC2_OWN_LOG)
+    mc2_custom_line(text, length, log, &line);
+    if (line.kind != MC2_CUSTOM_LOG)
         return;
     tell(told, MC2_OUT_OF_MEMORY, 0, 0, 0);
     if (!(it = malloc(sizeof *it)))
         return;
     open_object(it, &params);
-    tell(told, MC2_OWN_COUNTED, count_log(text, length, &line, it), 0, 0);
+    tell(told, MC2_CUSTOM_COUNTED, count_log(text, length, &line, it), 0, 0);
     free(it);
 }
 
 /* ---- Records */
 
-void mc2_own_audit(const uint8_t *text, size_t length, const uint64_t *right, size_t objects, struct mc2_told *told) {
+void mc2_custom_audit(const uint8_t *text, size_t length, const uint64_t *right, size_t objects, struct mc2_report *told) {
     struct record *r = malloc(sizeof *r);
     tell(told, MC2_OUT_OF_MEMORY, 0, 0, 0);
     if (!r)
@@ -107,9 +107,9 @@ void mc2_own_audit(const uint8_t *text, size_t length, const uint64_t *right, si
     free(r);
 }
 
-static void tell_order(const struct record *r, const struct front *front, struct mc2_turn *room, size_t turns,
-                       struct mc2_told *told) {
-    uint64_t at[MC2_OWN_CPUS] = {0};
+static void tell_order(const struct record *r, const struct front *front, struct mc2_entry_id *room, size_t turns,
+                       struct mc2_report *told) {
+    uint64_t at[MC2_CUSTOM_CPUS] = {0};
     tell(told, r->entry_count > turns ? MC2_NO_ROOM : MC2_SOUND, r->entry_count, 0, 0);
     for (size_t n = 0; n < r->entry_count && r->entry_count <= turns; n++) {
         room[n].cpu = front->order[n];
@@ -117,8 +117,8 @@ static void tell_order(const struct record *r, const struct front *front, struct
     }
 }
 
-void mc2_own_merge(const uint8_t *text, size_t length, const uint64_t *right, size_t objects, struct mc2_turn *room,
-                   size_t turns, struct mc2_told *told) {
+void mc2_custom_merge(const uint8_t *text, size_t length, const uint64_t *right, size_t objects, struct mc2_entry_id *room,
+                   size_t turns, struct mc2_report *told) {
     struct record *r = malloc(sizeof *r);
     struct front *front = NULL;
     size_t placed = 0;

@@ -6,8 +6,8 @@
 #include "record.h"
 
 static inline struct name name_of(const struct record *r, struct span span) {
-    uint8_t bytes[MC2_OWN_LETTERS];
-    if (!IS_OWN || r->end - span.at >= MC2_OWN_LETTERS)
+    uint8_t bytes[MC2_CUSTOM_LETTERS];
+    if (!IS_OWN || r->end - span.at >= MC2_CUSTOM_LETTERS)
         return name_at(span.at, span.length);
     memcpy(bytes, span.at, span.length);
     return name_at(bytes, span.length);
@@ -24,7 +24,7 @@ static bool is_refusing(const struct record *r, struct span reply) {
 /* The calls of an entry, each with its numbers. */
 struct calls {
     uint32_t count;
-    struct span each[MC2_OWN_CALLS];
+    struct span each[MC2_CUSTOM_CALLS];
 };
 
 /* A step. Of a record 3 only the word of the reply is kept. */
@@ -36,7 +36,7 @@ struct step {
 
 struct steps {
     uint32_t count;
-    struct step each[MC2_OWN_CALLS];
+    struct step each[MC2_CUSTOM_CALLS];
 };
 
 static inline const uint8_t *read_call(const uint8_t *p, struct step *step) {
@@ -66,7 +66,7 @@ static inline const uint8_t *read_calls(const uint8_t *p, struct calls *all) {
             return NULL;
         all->each[all->count++] = (struct span){from, (uint32_t)(p - from)};
         more = mark(p, ';');
-    } while (more && all->count < MC2_OWN_CALLS);
+    } while (more && all->count < MC2_CUSTOM_CALLS);
     return p;
 }
 
@@ -77,7 +77,7 @@ static inline const uint8_t *read_steps(const struct record *r, const uint8_t *p
         struct step *step = &all->each[all->count++];
         p = read_reply(r, mark(read_call(more, step), '='), step);
         more = mark(p, ';');
-    } while (more && all->count < MC2_OWN_CALLS);
+    } while (more && all->count < MC2_CUSTOM_CALLS);
     return p;
 }
 

@@ -3,7 +3,7 @@
 #ifndef SECOND_JUDGE_TEXT_H
 #define SECOND_JUDGE_TEXT_H
 
-#include "mc2_own.h"
+#include "mc2_custom.h"
 #include <string.h>
 
 enum { DIGIT = 1, LETTER = 2, MOST_DIGITS = 20 };
@@ -17,11 +17,11 @@ static inline bool are_same(struct name one, struct name other) { return one.low
 
 /* The first bytes of 16, with zeros after them. */
 static inline struct name name_at(const uint8_t *p, uint32_t length) {
-    static const uint8_t ones[2 * MC2_OWN_LETTERS] = {255, 255, 255, 255, 255, 255, 255, 255,
+    static const uint8_t ones[2 * MC2_CUSTOM_LETTERS] = {255, 255, 255, 255, 255, 255, 255, 255,
                                                       255, 255, 255, 255, 255, 255, 255, 255};
     struct name name, mask;
     memcpy(&name, p, sizeof name);
-    memcpy(&mask, ones + MC2_OWN_LETTERS - length, sizeof mask);
+    memcpy(&mask, ones + MC2_CUSTOM_LETTERS - length, sizeof mask);
     return (struct name){name.low & mask.low, name.high & mask.high};
 }
 
@@ -63,7 +63,7 @@ static inline const uint8_t *word(const uint8_t *p, struct span *span) {
         p++;
     span->at = from;
     span->length = (uint32_t)(p - from);
-    return p - from <= MC2_OWN_LETTERS ? p : NULL;
+    return p - from <= MC2_CUSTOM_LETTERS ? p : NULL;
 }
 
 /* A number of 64 bits in its one spelling, whose value isn't needed. */
@@ -104,7 +104,7 @@ static inline const uint8_t *said(const uint8_t *p, struct span *span) {
     uint32_t count = 0;
     p = word(p, span);
     while (p && *p == ' ' && sorts[p[1]] == DIGIT)
-        p = count++ < MC2_OWN_NUMBERS ? digits(p + 1) : NULL;
+        p = count++ < MC2_CUSTOM_NUMBERS ? digits(p + 1) : NULL;
     return p;
 }
 
@@ -112,7 +112,7 @@ static inline const uint8_t *said(const uint8_t *p, struct span *span) {
 
 /* Puts the word, with zeros behind it. */
 static inline void put_word(struct span span, uint8_t *padded) {
-    memset(padded, 0, MC2_OWN_LETTERS);
+    memset(padded, 0, MC2_CUSTOM_LETTERS);
     for (uint32_t at = 0; at < span.length; at++)
         padded[at] = span.at[at];
 }
@@ -125,14 +125,14 @@ static inline const uint8_t *word_in(const uint8_t *p, uint8_t *padded) {
     return p;
 }
 
-static inline bool object_in(const uint8_t *p, struct mc2_own_line *line, uint8_t *lock) {
+static inline bool object_in(const uint8_t *p, struct mc2_custom_line *line, uint8_t *lock) {
     p = space(word_in(just(p, "object "), line->name));
     p = number(space(word_in(p, lock)), 1, UINT32_MAX, &line->limit);
     p = word_in(space(p), line->object_kind);
-    return end_of(numbers(p, MC2_OWN_SIZES, &line->count, line->numbers)) != NULL;
+    return end_of(numbers(p, MC2_CUSTOM_SIZES, &line->count, line->numbers)) != NULL;
 }
 
-static inline bool log_in(const uint8_t *p, struct mc2_own_line *line) {
+static inline bool log_in(const uint8_t *p, struct mc2_custom_line *line) {
     p = word_in(just(p, "log "), line->name);
     return end_of(number(space(p), 0, UINT32_MAX, &line->limit)) != NULL;
 }

@@ -17,21 +17,21 @@ impl<'c, K> Caller<'c, K> {
     /// Waits for the object, does the call, and gives the object back: the answer, `Refused`, or `Full`.
     pub fn call<T: Answer>(&mut self, call: Call<K, T>) -> Result<T, Error> {
         let mut reply = [0; 2];
-        self.whole(|own, looks| mc2_caller_call(own, &call.0, &mut reply, looks))?;
+        self.whole(|own, looks| mc2_poll_call(own, &call.0, &mut reply, looks))?;
         Reply(reply).answer()
     }
     /// The same of 1 to 8 calls as one event, up to and with the first that is refused: the replies, `Full`, or `BadNumber`.
     pub fn batch(&mut self, calls: &[Call<K>]) -> Result<impl Iterator<Item = Reply>, Error> {
         let (mut asked, mut replies) = (Few { count: calls.len().min(9) as u32, ..Few::default() }, Few::default());
         asked.list.iter_mut().zip(calls).for_each(|(it, call)| *it = call.0);
-        self.whole(|own, looks| mc2_caller_batch(own, &asked, &mut replies, looks))?;
+        self.whole(|own, looks| mc2_poll_batch(own, &asked, &mut replies, looks))?;
         Ok(replies.list.into_iter().take(replies.count as usize).map(Reply))
     }
     /// The call, if nobody has the object or is in line for it: the answer, `Refused`, `Full`, or else `Busy`.
     pub fn try_call<T: Answer>(&mut self, call: Call<K, T>) -> Result<T, Error> {
         let mut reply = [0; 2];
         self.give_back(1);
-        let told = mc2_caller_try_call(&mut self.own, &call.0, &mut reply);
+        let told = mc2_poll_try_call(&mut self.own, &call.0, &mut reply);
         self.end(told)?;
         Reply(reply).answer()
     }
@@ -39,14 +39,14 @@ impl<'c, K> Caller<'c, K> {
     pub fn hold(&mut self) -> Hold<'_, 'c, K> {
         self.give_back(0);
         self.cell.resting.stay_outside();
-        let (told, vain) = self.cell.resting.steps(|| mc2_caller_advance(&mut self.own));
+        let (told, vain) = self.cell.resting.steps(|| mc2_acquire_step(&mut self.own));
         (self.is_held, self.looks) = (true, vain + u64::from(told == FOUND));
         Hold(self)
     }
     /// The object, if nobody has it or is in line for it.
     pub fn try_hold(&mut self) -> Option<Hold<'_, 'c, K>> {
         self.give_back(1);
-        self.is_held = mc2_caller_try(&mut self.own) == FOUND;
+        self.is_held = mc2_poll_try_acquire(&mut self.own) == FOUND;
         self.is_held.then(|| Hold(self))
     }
     fn whole(&mut self, mut step: impl FnMut(&mut Handle, &mut u64) -> u32) -> Result<(), Error> {
@@ -64,7 +64,7 @@ impl<'c, K> Caller<'c, K> {
     // Gives the object back, if the caller has it, as by a hold that was leaked.
     fn give_back(&mut self, looks: u64) {
         if take(&mut self.is_held) {
-            self.cell.resting.steps(|| mc2_caller_leave(&mut self.own));
+            self.cell.resting.steps(|| mc2_release_step(&mut self.own));
         }
         self.looks = looks;
     }
@@ -85,7 +85,7 @@ impl<K> Hold<'_, '_, K> {
     /// Does the call as one event: the answer, `Refused`, or `Full`.
     pub fn call<T: Answer>(&mut self, call: Call<K, T>) -> Result<T, Error> {
         let mut reply = [0; 2];
-        done(mc2_caller_apply(&mut self.0.own, &call.0, &mut reply))?;
+        done(mc2_apply_step(&mut self.0.own, &call.0, &mut reply))?;
         Reply(reply).answer()
     }
 }

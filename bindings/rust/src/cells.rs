@@ -15,11 +15,11 @@ impl<K: Object> Cell<K> {
     /// `Full`. With 0 the log isn't kept, and calls have no end. All memory is taken here. Else: `NoMemory`, `BadNumber`.
     pub fn open(object: K, lock: Lock, cpus: u32, events: u32) -> Result<Cell<K>, Error> {
         let (opening, idle, mut own) = (object.opening(lock, cpus, events), Idle::new(), Handle::new()?);
-        done(mc2_handle_open(&mut own, &opening))?;
+        done(mc2_handle_open_cell(&mut own, &opening))?;
         // The library deals the greatest CPU first.
         for cpu in (0..cpus).rev() {
             let mut caller = Handle::new()?;
-            done(mc2_handle_deal(&mut own, &mut caller))?;
+            done(mc2_handle_open_caller(&mut own, &mut caller))?;
             idle.put(cpu, caller);
         }
         Ok(Cell { log: Log { own, opening, kind: PhantomData }, idle, resting: Resting::default() })
@@ -35,9 +35,9 @@ impl<K: Object> Cell<K> {
         for cpu in 0..log.opening[3] {
             let mut caller = idle.take(cpu).ok_or(Error::Busy)?;
             // SAFETY: it is a caller of this cell, as it lay there.
-            done(unsafe { mc2_cell_take_back(&mut log.own, &mut caller) })?;
+            done(unsafe { mc2_handle_return_caller(&mut log.own, &mut caller) })?;
         }
-        done(mc2_cell_close(&mut log.own)).map(|()| log)
+        done(mc2_handle_close_cell(&mut log.own)).map(|()| log)
     }
 }
 
@@ -49,7 +49,7 @@ impl<K> Log<K> {
     /// no such step, and of a log that isn't kept.
     pub fn step(&mut self, event: usize, step: usize) -> Option<(u32, Call<K>, Reply)> {
         let mut told = [0; 6];
-        done(mc2_cell_step(&mut self.own, event, step, &mut told)).ok()?;
+        done(mc2_handle_read_step(&mut self.own, event, step, &mut told)).ok()?;
         let [cpu, word, first, second, reply, number] = told;
         Some((cpu, Call([word, first, second], PhantomData), Reply([reply, number])))
     }

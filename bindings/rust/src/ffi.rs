@@ -4,7 +4,7 @@ use core::mem::ManuallyDrop;
 use core::ptr::{null_mut, NonNull};
 use core::sync::atomic::{AtomicPtr, Ordering::SeqCst};
 
-// Of enum mc2_cell_told.
+// Of enum mc2_result.
 pub const STEPPED: u32 = 0;
 pub const LOOKED: u32 = 1;
 pub const FOUND: u32 = 3;
@@ -43,27 +43,27 @@ unsafe impl Send for Handle {}
 // SAFETY: as the header declares them. Those are safe whose types give all that it asks for: handles that were made, by one
 // call at a time, and places that nobody else touches. What doesn't fit is refused.
 unsafe extern "C" {
-    safe fn mc2_handle_new(own: &mut *mut u8) -> u32;
+    safe fn mc2_handle_alloc(own: &mut *mut u8) -> u32;
     fn mc2_handle_free(handle: ManuallyDrop<Handle>) -> u32;
-    pub safe fn mc2_handle_open(cell: &mut Handle, opening: &Opening) -> u32;
-    pub safe fn mc2_handle_deal(cell: &mut Handle, caller: &mut Handle) -> u32;
-    pub safe fn mc2_caller_advance(caller: &mut Handle) -> u32;
-    pub safe fn mc2_caller_leave(caller: &mut Handle) -> u32;
-    pub safe fn mc2_caller_try(caller: &mut Handle) -> u32;
-    pub safe fn mc2_caller_apply(caller: &mut Handle, asked: &Asked, answered: &mut Answered) -> u32;
-    pub safe fn mc2_caller_call(caller: &mut Handle, asked: &Asked, answered: &mut Answered, looks: &mut u64) -> u32;
-    pub safe fn mc2_caller_batch(caller: &mut Handle, asked: &Few<Asked>, done: &mut Few<Answered>, looks: &mut u64) -> u32;
-    pub safe fn mc2_caller_try_call(caller: &mut Handle, asked: &Asked, answered: &mut Answered) -> u32;
+    pub safe fn mc2_handle_open_cell(cell: &mut Handle, opening: &Opening) -> u32;
+    pub safe fn mc2_handle_open_caller(cell: &mut Handle, caller: &mut Handle) -> u32;
+    pub safe fn mc2_acquire_step(caller: &mut Handle) -> u32;
+    pub safe fn mc2_release_step(caller: &mut Handle) -> u32;
+    pub safe fn mc2_poll_try_acquire(caller: &mut Handle) -> u32;
+    pub safe fn mc2_apply_step(caller: &mut Handle, asked: &Asked, answered: &mut Answered) -> u32;
+    pub safe fn mc2_poll_call(caller: &mut Handle, asked: &Asked, answered: &mut Answered, looks: &mut u64) -> u32;
+    pub safe fn mc2_poll_batch(caller: &mut Handle, asked: &Few<Asked>, done: &mut Few<Answered>, looks: &mut u64) -> u32;
+    pub safe fn mc2_poll_try_call(caller: &mut Handle, asked: &Asked, answered: &mut Answered) -> u32;
     // The caller has to be of that cell, which the library doesn't check.
-    pub fn mc2_cell_take_back(cell: &mut Handle, caller: &mut Handle) -> u32;
-    pub safe fn mc2_cell_close(cell: &mut Handle) -> u32;
-    pub safe fn mc2_cell_step(cell: &mut Handle, event: usize, step: usize, told: &mut Logged) -> u32;
+    pub fn mc2_handle_return_caller(cell: &mut Handle, caller: &mut Handle) -> u32;
+    pub safe fn mc2_handle_close_cell(cell: &mut Handle) -> u32;
+    pub safe fn mc2_handle_read_step(cell: &mut Handle, event: usize, step: usize, told: &mut Logged) -> u32;
 }
 
 impl Handle {
     pub fn new() -> Result<Handle, Error> {
         let mut own = null_mut();
-        done(mc2_handle_new(&mut own))?;
+        done(mc2_handle_alloc(&mut own))?;
         NonNull::new(own).map(Handle).ok_or(Error::NoMemory)
     }
 }

@@ -2,12 +2,12 @@
 use Rattle.std.proofs.Common.{◌≡◌, ◌∙◌, ℕ, Bool, true, false, ap, List, Result, Ok, Err}
 use Rattle.event_log.specs.declared.logged.NoRoom.{NoRoom}
 use Rattle.kernel_object.specs.{declared.call.KCall.KCall, contracts.object.KernelObjectSeqObject.TheImpl.ghosts}
-use Rattle.cell_callers.specs.{declared.batching.Replies.Replies, declared.report_codes.TheConstants.{DONE, FULL, DONE_KEPT, FULL_KEPT}, Arrivals.{GoesThere, got_by}, BatchCodes.ReportsAll, BatchReports.{ReportsHeldBatch, ReportsBatchedAt}, Codes.{kept_code, looks_after}, HandleContents.{KernelCell, KernelHold, KernelState, KernelSteps}}
+use Rattle.cell_callers.specs.{declared.batching.Replies.Replies, declared.report_codes.TheConstants.{DONE, LOG_FULL, DONE_HELD, LOG_FULL_HELD}, Arrivals.{GoesThere, got_by}, BatchCodes.ReportsAll, BatchReports.{ReportsHeldBatch, ReportsBatchedAt}, Codes.{kept_code, looks_after}, HandleContents.{KernelCell, KernelHold, KernelState, KernelSteps}}
 use Rattle.cell_callers.specs.declared.caller_state.CallerState.TheVariants as at
 use Rattle.cell_callers.specs.declared.whole.Whole.TheVariants as whole
 
 -- what is reported where the object isn't given back yet
-pub kept_all : (said : Result KernelSteps NoRoom) (old new : Replies) (n m : ℕ) → ReportsAll DONE FULL said n old new → m ≡ kept_code n → ReportsAll DONE_KEPT FULL_KEPT said m old new
+pub kept_all : (said : Result KernelSteps NoRoom) (old new : Replies) (n m : ℕ) → ReportsAll DONE LOG_FULL said n old new → m ≡ kept_code n → ReportsAll DONE_HELD LOG_FULL_HELD said m old new
 kept_all (Ok steps) old new n m reported kept = (kept ∙ ap kept_code reported.0, reported.1)
 kept_all (Err why) old new n m reported kept = (kept ∙ ap kept_code reported.0, reported.1)
 

@@ -5,7 +5,7 @@ use Rattle.event_log.specs.{declared.object.SeqObject.Ghosts, declared.logged.No
 use Rattle.kernel_object.specs.declared.call.KReply.{KReply}
 use Rattle.word_rule.specs.{declared.hold.Hold.Hold, declared.pass.Pass.Pass, Passes.{state_of_pass, state_of_hold}}
 use Rattle.mcs_lock.specs.{declared.cell.McsCell.McsCell, Passes.IsPassOf}
-use Rattle.cell_callers.specs.{declared.report_codes.TheConstants.{DONE, FULL, DONE_KEPT, FULL_KEPT}, declared.call_numbers.Answered.Answered, Arrivals.IsDeparture, Codes.{answer_code, kept_code}, Coding.reply_code}
+use Rattle.cell_callers.specs.{declared.report_codes.TheConstants.{DONE, LOG_FULL, DONE_HELD, LOG_FULL_HELD}, declared.call_numbers.Answered.Answered, Arrivals.IsDeparture, Codes.{answer_code, kept_code}, Coding.reply_code}
 use Rattle.guarded_cell.specs.declared.cell.AnyCell.TheVariants as cells
 use Rattle.cell_callers.specs.declared.caller_state.CallerState.TheVariants as at
 
@@ -17,14 +17,14 @@ module _ {O P C R : Type 0} {g : Ghosts O P C R} {call_eq : Eq C} {call_default 
     pub gone : IsDeparture g (cells.Mcs cell) (at.Holding hold) true (at.Idle back)
 
 -- what is reported where the object isn't given back yet
-pub kept_reported : (said : Result KReply NoRoom) (old new : Answered) (n m : ℕ) → (n, new) ≡ answer_code DONE FULL old said → m ≡ kept_code n → (m, new) ≡ answer_code DONE_KEPT FULL_KEPT old said
+pub kept_reported : (said : Result KReply NoRoom) (old new : Answered) (n m : ℕ) → (n, new) ≡ answer_code DONE LOG_FULL old said → m ≡ kept_code n → (m, new) ≡ answer_code DONE_HELD LOG_FULL_HELD old said
 kept_reported (Ok reply) old new n m e k =
     let number : n ≡ DONE = ap (λ z. z.0) e in
-    let reported : m ≡ DONE_KEPT = k ∙ ap kept_code number in
+    let reported : m ≡ DONE_HELD = k ∙ ap kept_code number in
     let reads : new ≡ reply_code reply = ap (λ z. z.1) e in
     λ i. (reported i, reads i)
 kept_reported (Err why) old new n m e k =
-    let number : n ≡ FULL = ap (λ z. z.0) e in
-    let reported : m ≡ FULL_KEPT = k ∙ ap kept_code number in
+    let number : n ≡ LOG_FULL = ap (λ z. z.0) e in
+    let reported : m ≡ LOG_FULL_HELD = k ∙ ap kept_code number in
     let stays : new ≡ old = ap (λ z. z.1) e in
     λ i. (reported i, stays i)

@@ -21,8 +21,8 @@ module _ {O P C R : Type 0} {g : Ghosts O P C R} {call_eq : Eq C} {call_default 
   stands_idle pass line none = ap (λ l. stands_at (Some pass) l) none
 
   pub stands_in_line : (pass : Option (Pass O P C R g call_eq call_default reply_eq reply_default)) (line : Option (CallerState O P C R g call_eq call_default reply_eq reply_default)) (s : CallerState O P C R g call_eq call_default reply_eq reply_default)
-      → pass ≡ None → line ≡ Some s → stands_at pass line ≡ Some s
-  stands_in_line pass line s none some = ap (λ p. stands_at p line) none ∙ ap (λ l. stands_at {g = g} {call_eq = call_eq} {call_default = call_default} {reply_eq = reply_eq} {reply_default = reply_default} None l) some
+      → pass ≡ None → line ≡ Some s → stands_at {g = g} {call_eq = call_eq} {call_default = call_default} {reply_eq = reply_eq} {reply_default = reply_default} None (Some s) ≡ Some s → stands_at pass line ≡ Some s
+  stands_in_line pass line s none some there = ap (λ p. stands_at p line) none ∙ (ap (λ l. stands_at {g = g} {call_eq = call_eq} {call_default = call_default} {reply_eq = reply_eq} {reply_default = reply_default} None l) some ∙ there)
 
   -- what holds of where the caller stands
   pub placed : (place : CallerPlace O P C R g call_eq call_default reply_eq reply_default) (s : CallerState O P C R g call_eq call_default reply_eq reply_default) (Q : CallerState O P C R g call_eq call_default reply_eq reply_default → Type 0) → place_of place ≡ Some s → Q s → IfSome (place_of place) Q
@@ -35,7 +35,16 @@ module _ {O P C R : Type 0} {g : Ghosts O P C R} {call_eq : Eq C} {call_default 
 
   pub in_line : (cell : AnyCell O P C R) (pass pass' : Option (Pass O P C R g call_eq call_default reply_eq reply_default)) (line : Option (CallerState O P C R g call_eq call_default reply_eq reply_default)) → pass ≡ None → pass' ≡ None → IsSome (stands_at pass line)
       → IfSome (stands_at pass line) (λ s. IsOf cell s) → IfSome (stands_at pass line) (λ s. IsOne (state_of s).caller) → (s : CallerState O P C R g call_eq call_default reply_eq reply_default) × (stands_at pass' line ≡ Some s) × IsOf cell s × IsOne (state_of s).caller
-  in_line cell None None (Some s) e e' some of one = (s, refl, of, one)
+  in_line cell None None (Some (at.Idle p)) e e' some of one = absurd (cc)
+  in_line cell None None (Some (at.Drawn x)) e e' some of one = (at.Drawn x, refl, of, one)
+  in_line cell None None (Some (at.Ready x)) e e' some of one = (at.Ready x, refl, of, one)
+  in_line cell None None (Some (at.Behind x)) e e' some of one = (at.Behind x, refl, of, one)
+  in_line cell None None (Some (at.Armed x)) e e' some of one = (at.Armed x, refl, of, one)
+  in_line cell None None (Some (at.Waiting x)) e e' some of one = (at.Waiting x, refl, of, one)
+  in_line cell None None (Some (at.Holding x)) e e' some of one = (at.Holding x, refl, of, one)
+  in_line cell None None (Some (at.Alone x)) e e' some of one = (at.Alone x, refl, of, one)
+  in_line cell None None (Some (at.Leaving x)) e e' some of one = (at.Leaving x, refl, of, one)
+  in_line cell None None (Some (at.Passing x)) e e' some of one = (at.Passing x, refl, of, one)
   in_line cell None None None e e' some of one = absurd (cc)
   in_line cell None (Some x) line e e' some of one = absurd (cc)
   in_line cell (Some x) pass' line e e' some of one = absurd (cc)

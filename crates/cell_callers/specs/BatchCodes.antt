@@ -2,7 +2,7 @@
 use Rattle.std.specs.Prelude.{◌≡◌, ℕ, List, [], ◌∷◌, length, take, map, Option, Some, None, Result, Ok, Err}
 use Rattle.event_log.specs.declared.logged.NoRoom.{NoRoom}
 use Rattle.kernel_object.specs.{declared.call.KCall.KCall, KernelTypes.KernelStep}
-use Rattle.cell_callers.specs.{declared.call_numbers.Asked.Asked, declared.batching.Batch.Batch, declared.batching.Replies.Replies, declared.report_codes.TheConstants.{LOOKED, REFUSED, DONE, FULL, DONE_KEPT, FULL_KEPT}, declared.whole.Whole.Whole, Coding.{called_of, reply_code}, HandleContents.KernelSteps}
+use Rattle.cell_callers.specs.{declared.call_numbers.Asked.Asked, declared.batching.Batch.Batch, declared.batching.Replies.Replies, declared.report_codes.TheConstants.{AGAIN, REFUSED, DONE, LOG_FULL, DONE_HELD, LOG_FULL_HELD}, declared.whole.Whole.Whole, Coding.{called_of, reply_code}, HandleContents.KernelSteps}
 use Rattle.cell_callers.specs.declared.whole.Whole.TheVariants as whole
 
 abbrev pub with_call : Option KCall → Option (List KCall) → Option (List KCall)
@@ -28,7 +28,7 @@ ReportsAll done full (Ok steps) n old new = (n ≡ done) × AreRepliesTo steps.l
 ReportsAll done full (Err why) n old new = (n ≡ full) × (new ≡ old)
 
 abbrev pub ReportsWhole : Whole (Result KernelSteps NoRoom) → ℕ → Replies → Replies → Type 0
-ReportsWhole (whole.Done said looked) n old new = ReportsAll DONE FULL said n old new
-ReportsWhole (whole.Kept said looked) n old new = ReportsAll DONE_KEPT FULL_KEPT said n old new
-ReportsWhole whole.Waits n old new = (n ≡ LOOKED) × (new ≡ old)
+ReportsWhole (whole.Done said looked) n old new = ReportsAll DONE LOG_FULL said n old new
+ReportsWhole (whole.Kept said looked) n old new = ReportsAll DONE_HELD LOG_FULL_HELD said n old new
+ReportsWhole whole.Waits n old new = (n ≡ AGAIN) × (new ≡ old)
 ReportsWhole whole.Refused n old new = (n ≡ REFUSED) × (new ≡ old)

@@ -2,16 +2,16 @@
 use Rattle.std.specs.Prelude.{◌≡◌, ℕ, Bool, true, false, List, Result}
 use Rattle.event_log.specs.declared.logged.NoRoom.{NoRoom}
 use Rattle.kernel_object.specs.{declared.call.KCall.KCall, contracts.object.KernelObjectSeqObject.TheImpl.ghosts}
-use Rattle.cell_callers.specs.{declared.batching.Replies.Replies, declared.report_codes.TheConstants.{DONE, FULL, DONE_KEPT, FULL_KEPT}, declared.handle_content.HandleContent.HandleContent, declared.whole.Whole.Whole, Applies.IsHeldBatch, BatchCodes.{ReportsAll, ReportsWhole}, Codes.{looks_after, has_looked}, HandleContents.{IsBatchIn, KernelCell, KernelHold, KernelPlace, KernelState, KernelSteps}, Places.Between, Wholes.{IsBatched, IsHeldCall}}
+use Rattle.cell_callers.specs.{declared.batching.Replies.Replies, declared.report_codes.TheConstants.{DONE, LOG_FULL, DONE_HELD, LOG_FULL_HELD}, declared.handle_content.HandleContent.HandleContent, declared.whole.Whole.Whole, Applies.IsHeldBatch, BatchCodes.{ReportsAll, ReportsWhole}, Codes.{looks_after, has_looked}, HandleContents.{IsBatchIn, KernelCell, KernelHold, KernelPlace, KernelState, KernelSteps}, Places.Between, Wholes.{IsBatched, IsHeldCall}}
 
 -- the calls were done under the hold, or the log was full: the number of that, and the replies before and after
 abbrev pub IsRepliedHeld : List KCall → Replies → ℕ → Replies → KernelHold → KernelHold → Type 0
-IsRepliedHeld calls old n new h k = (said : Result KernelSteps NoRoom) × ReportsAll DONE FULL said n old new × IsHeldBatch ghosts h calls said k
+IsRepliedHeld calls old n new h k = (said : Result KernelSteps NoRoom) × ReportsAll DONE LOG_FULL said n old new × IsHeldBatch ghosts h calls said k
 
 -- the number of what was done, as the object is given back, or isn't yet
 abbrev pub ReportsEnd : Bool → Result KernelSteps NoRoom → ℕ → Replies → Replies → Type 0
-ReportsEnd true said n old new = ReportsAll DONE FULL said n old new
-ReportsEnd false said n old new = ReportsAll DONE_KEPT FULL_KEPT said n old new
+ReportsEnd true said n old new = ReportsAll DONE LOG_FULL said n old new
+ReportsEnd false said n old new = ReportsAll DONE_HELD LOG_FULL_HELD said n old new
 
 -- a holder has done the calls, and then given the object back, or will
 abbrev pub ReportsHeldBatch : KernelCell → KernelHold → List KCall → Replies → ℕ → Replies → KernelState → Type 0

@@ -2,21 +2,21 @@
 use Rattle.std.specs.Prelude.{ℕ, ◌+◌, ◌%◌, ◌^◌, ◌==◌, Bool, true, false, Option, Some, None, Result, Ok, Err, if◌then◌else◌}
 use Rattle.event_log.specs.declared.logged.NoRoom.{NoRoom}
 use Rattle.kernel_object.specs.declared.call.KReply.{KReply}
-use Rattle.cell_callers.specs.{declared.call_numbers.Answered.Answered, declared.report_codes.TheConstants.{STEPPED, LOOKED, ENTERED, FOUND, LEFT, REFUSED, BUSY, DONE, FULL, DONE_KEPT, FULL_KEPT, NO_MEMORY, BAD_OPENING}, declared.opening.NotOpened.NotOpened, declared.opening.NotOpened.TheVariants.{NotEmpty, BadOpening, OutOfMemory}, declared.progress.Progress.Progress, declared.whole.Whole.Whole, declared.whole.TriedCall.TriedCall, Coding.reply_code}
+use Rattle.cell_callers.specs.{declared.call_numbers.Answered.Answered, declared.report_codes.TheConstants.{STEPPED, AGAIN, ACQUIRED, ACQUIRED_BY_LOOK, RELEASED, REFUSED, BUSY, DONE, LOG_FULL, DONE_HELD, LOG_FULL_HELD, NO_MEMORY, BAD_PARAM}, declared.opening.NotOpened.NotOpened, declared.opening.NotOpened.TheVariants.{NotEmpty, BadOpening, OutOfMemory}, declared.progress.Progress.Progress, declared.whole.Whole.Whole, declared.whole.TriedCall.TriedCall, Coding.reply_code}
 use Rattle.cell_callers.specs.declared.progress.Progress.TheVariants as reported
 use Rattle.cell_callers.specs.declared.whole.Whole.TheVariants as whole
 use Rattle.cell_callers.specs.declared.whole.TriedCall.TheVariants as tried
 
 abbrev pub progress_code : Option Progress → ℕ
 progress_code (Some reported.Stepped) = STEPPED
-progress_code (Some reported.Looked) = LOOKED
-progress_code (Some reported.Entered) = ENTERED
-progress_code (Some reported.Found) = FOUND
-progress_code (Some reported.Left) = LEFT
+progress_code (Some reported.Looked) = AGAIN
+progress_code (Some reported.Entered) = ACQUIRED
+progress_code (Some reported.Found) = ACQUIRED_BY_LOOK
+progress_code (Some reported.Left) = RELEASED
 progress_code None = REFUSED
 
 abbrev pub try_code : Option Bool → ℕ
-try_code (Some true) = FOUND
+try_code (Some true) = ACQUIRED_BY_LOOK
 try_code (Some false) = BUSY
 try_code None = REFUSED
 
@@ -26,22 +26,22 @@ answer_code done full old (Ok reply) = (done, reply_code reply)
 answer_code done full old (Err why) = (full, old)
 
 abbrev pub apply_code : Answered → Option (Result KReply NoRoom) → ℕ × Answered
-apply_code old (Some said) = answer_code DONE FULL old said
+apply_code old (Some said) = answer_code DONE LOG_FULL old said
 apply_code old None = (REFUSED, old)
 
 -- what is reported of a call whose object isn't given back yet, for what is reported of it without that
 abbrev pub kept_code : ℕ → ℕ
-kept_code reported = if reported == DONE then DONE_KEPT else FULL_KEPT
+kept_code reported = if reported == DONE then DONE_HELD else LOG_FULL_HELD
 
 abbrev pub call_code : Answered → Whole (Result KReply NoRoom) → ℕ × Answered
-call_code old (whole.Done said looked) = answer_code DONE FULL old said
-call_code old (whole.Kept said looked) = answer_code DONE_KEPT FULL_KEPT old said
-call_code old whole.Waits = (LOOKED, old)
+call_code old (whole.Done said looked) = answer_code DONE LOG_FULL old said
+call_code old (whole.Kept said looked) = answer_code DONE_HELD LOG_FULL_HELD old said
+call_code old whole.Waits = (AGAIN, old)
 call_code old whole.Refused = (REFUSED, old)
 
 abbrev pub try_call_code : Answered → TriedCall (Result KReply NoRoom) → ℕ × Answered
-try_call_code old (tried.Done said) = answer_code DONE FULL old said
-try_call_code old (tried.Kept said) = answer_code DONE_KEPT FULL_KEPT old said
+try_call_code old (tried.Done said) = answer_code DONE LOG_FULL old said
+try_call_code old (tried.Kept said) = answer_code DONE_HELD LOG_FULL_HELD old said
 try_call_code old tried.Busy = (BUSY, old)
 try_call_code old tried.Refused = (REFUSED, old)
 
@@ -61,4 +61,4 @@ abbrev pub opening_code : Result (Unit {0}) NotOpened → ℕ
 opening_code (Ok u) = DONE
 opening_code (Err NotEmpty) = REFUSED
 opening_code (Err OutOfMemory) = NO_MEMORY
-opening_code (Err BadOpening) = BAD_OPENING
+opening_code (Err BadOpening) = BAD_PARAM

@@ -22,3 +22,4 @@ pub mod Openings
 pub mod LoggedSteps
 pub mod CellContents
 pub mod Reopenings
+pub mod CodeNumbers

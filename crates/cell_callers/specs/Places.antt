@@ -7,9 +7,10 @@ use Rattle.cell_callers.specs.{declared.caller_state.CallerState.CallerState, de
 use Rattle.cell_callers.specs.declared.caller_state.CallerState.TheVariants as at
 
 module _ {O P C R : Type 0} {g : Ghosts O P C R} {call_eq : Eq C} {call_default : Default C} {reply_eq : Eq R} {reply_default : Default R} where
-  -- where the caller stands, unless its call is on its way
+  -- where the caller stands, unless its call is on its way. An idle caller stands there by its pass alone
   abbrev pub stands_at : Option (Pass O P C R g call_eq call_default reply_eq reply_default) → Option (CallerState O P C R g call_eq call_default reply_eq reply_default) → Option (CallerState O P C R g call_eq call_default reply_eq reply_default)
   stands_at (Some pass) None = Some (at.Idle pass)
+  stands_at None (Some (at.Idle pass)) = None
   stands_at None (Some state) = Some state
   stands_at pass line = None
 

@@ -12,7 +12,7 @@ ghost use Rattle.cell_callers.specs.{HandleContents.KernelCell, Wholes.IsHeldCal
 use crate::arrival::{Arrival, arrive};
 use crate::batching::Replies;
 use crate::departure::depart;
-use crate::report_codes::{DONE, FULL, LOOKED, REFUSED, count_look, kept_code, steps_code};
+use crate::report_codes::{AGAIN, DONE, LOG_FULL, REFUSED, count_look, kept_code, steps_code};
 use crate::{Caller, CallerState};
 use guarded_cell::AnyCell;
 use kernel_object::{KCall, KernelObject};
@@ -27,7 +27,7 @@ fn apply_all_held(hold: &mut Hold<KernelObject>, calls: &[KCall], replies: &mut 
     ensures caller { (state_of_hold hold.new).caller ≡ (state_of_hold hold.old).caller }
     ensures applied { IsRepliedHeld calls.now replies.old result replies.new hold.old hold.new }
 {
-    steps_code(hold.apply(calls), DONE, FULL, replies)
+    steps_code(hold.apply(calls), DONE, LOG_FULL, replies)
 }
 
 /// A batch under the hold, and back.
@@ -75,7 +75,7 @@ fn batch(
         }
         Ok(Arrival::Waits(state)) => {
             count_look(true, looks);
-            (state, LOOKED)
+            (state, AGAIN)
         }
         Err(state) => (state, REFUSED),
     }

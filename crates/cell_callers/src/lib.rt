@@ -20,6 +20,7 @@ mod logged_step;
 mod open_cell;
 mod opening;
 mod parts;
+mod pinned_codes;
 mod place;
 mod progress;
 mod releasing;
@@ -47,13 +48,14 @@ pub use logged_step::LoggedStep;
 pub use open_cell::OpenCell;
 pub use opening::{NotOpened, Opening};
 pub use parts::Parts;
+pub use pinned_codes::shows_codes;
 pub use place::CallerPlace;
 pub use progress::Progress;
 pub use releasing::release_step;
 pub use report_codes::{
-    BAD_OPENING, BUSY, DONE, DONE_KEPT, ENTERED, FOUND, FULL, FULL_KEPT, LEFT, LOOKED, NO_MEMORY,
-    NOT_THERE, REFUSED, STEPPED, call_code, opening_code, progress_code, shared_answer_code,
-    try_code,
+    ACQUIRED, ACQUIRED_BY_LOOK, AGAIN, BAD_PARAM, BUSY, DONE, DONE_HELD, LOG_FULL, LOG_FULL_HELD,
+    NO_MEMORY, NOT_FOUND, REFUSED, RELEASED, STEPPED, call_code, opening_code, progress_code,
+    shared_answer_code, try_code,
 };
 pub use straight::call_straight;
 pub use trying::try_hold;

@@ -10,39 +10,43 @@ use crate::{Progress, Whole};
 use event_log::{NoRoom, Steps};
 use kernel_object::{KReply, KernelObject};
 
-/// What a step has reported: a number for each.
-pub const STEPPED: u32 = 0;
+/// Success.
+pub const DONE: u32 = 0;
 
-pub const LOOKED: u32 = 1;
+/// The caller is in line, and its turn hasn't come.
+pub const AGAIN: u32 = 1;
 
-pub const ENTERED: u32 = 2;
+/// The caller holds the lock: without a look, or by a look.
+pub const ACQUIRED: u32 = 2;
 
-pub const FOUND: u32 = 3;
+pub const ACQUIRED_BY_LOOK: u32 = 3;
 
-pub const LEFT: u32 = 4;
+/// The lock is released, and the caller is idle.
+pub const RELEASED: u32 = 4;
 
-/// Nothing was done: the handle isn't at a place where this can be done.
+/// The handle isn't in a state that allows the call. Nothing was changed.
 pub const REFUSED: u32 = 5;
 
-/// Of a try: another has the object, or is in line for it.
+/// Of a try: another caller holds the lock, or is in line for it.
 pub const BUSY: u32 = 6;
 
-/// It was done; the log is full, and nothing was done; there is no such call, or no such step.
-pub const DONE: u32 = 7;
+/// One step of the lock is done.
+pub const STEPPED: u32 = 7;
 
-pub const FULL: u32 = 8;
+/// The log is full, and nothing was done; there is no such call, or no such step.
+pub const LOG_FULL: u32 = 8;
 
-pub const NOT_THERE: u32 = 9;
+pub const NOT_FOUND: u32 = 9;
 
-/// It was done, or the log was full, but the object isn't given back yet.
-pub const DONE_KEPT: u32 = 12;
-
-pub const FULL_KEPT: u32 = 13;
-
-/// Of an opening: memory was refused, or a number is none of those that fit.
+/// Of an opening: memory was refused, or an argument is out of range.
 pub const NO_MEMORY: u32 = 10;
 
-pub const BAD_OPENING: u32 = 11;
+pub const BAD_PARAM: u32 = 11;
+
+/// It was done, or the log was full, but the caller still holds the lock.
+pub const DONE_HELD: u32 = 12;
+
+pub const LOG_FULL_HELD: u32 = 13;
 
 /// What is reported of a step.
 pub fn progress_code(reported: Option<Progress>) -> u32
@@ -50,10 +54,10 @@ pub fn progress_code(reported: Option<Progress>) -> u32
 {
     match reported {
         Some(Progress::Stepped) => STEPPED,
-        Some(Progress::Looked) => LOOKED,
-        Some(Progress::Entered) => ENTERED,
-        Some(Progress::Found) => FOUND,
-        Some(Progress::Left) => LEFT,
+        Some(Progress::Looked) => AGAIN,
+        Some(Progress::Entered) => ACQUIRED,
+        Some(Progress::Found) => ACQUIRED_BY_LOOK,
+        Some(Progress::Left) => RELEASED,
         None => REFUSED,
     }
 }
@@ -63,7 +67,7 @@ pub fn try_code(reported: Option<bool>) -> u32
     ensures { result ≡ try_code reported }
 {
     match reported {
-        Some(true) => FOUND,
+        Some(true) => ACQUIRED_BY_LOOK,
         Some(false) => BUSY,
         None => REFUSED,
     }
@@ -106,9 +110,9 @@ pub fn kept_code(reported: u32) -> u32
     ensures { result ≡ kept_code reported }
 {
     if reported == DONE {
-        DONE_KEPT
+        DONE_HELD
     } else {
-        FULL_KEPT
+        LOG_FULL_HELD
     }
 }
 
@@ -133,11 +137,11 @@ pub fn call_code(
     ensures looks { looks.new ≡ looks_after (has_looked whole) looks.old }
 {
     let (done, looked, done_as, full_as) = match whole {
-        Whole::Done(done, looked) => (done, looked, DONE, FULL),
-        Whole::Kept(done, looked) => (done, looked, DONE_KEPT, FULL_KEPT),
+        Whole::Done(done, looked) => (done, looked, DONE, LOG_FULL),
+        Whole::Kept(done, looked) => (done, looked, DONE_HELD, LOG_FULL_HELD),
         Whole::Waits => {
             count_look(true, looks);
-            return LOOKED;
+            return AGAIN;
         }
         Whole::Refused => return REFUSED,
     };
@@ -171,6 +175,6 @@ pub fn opening_code(reported: Result<(), NotOpened>) -> u32
         Ok(()) => DONE,
         Err(NotOpened::NotEmpty) => REFUSED,
         Err(NotOpened::OutOfMemory) => NO_MEMORY,
-        Err(NotOpened::BadOpening) => BAD_OPENING,
+        Err(NotOpened::BadOpening) => BAD_PARAM,
     }
 }

@@ -4,7 +4,7 @@
 ghost use Rattle.std.specs.Prelude.{◌≡◌, true, None, Some};
 ghost use Rattle.guarded_cell.specs.{declared.cell.AnyCell.AnyCell, declared.cell.AnyCell.TheVariants.{Ticket, Mcs}};
 ghost use Rattle.cell_callers.specs.declared.caller_state.CallerState.TheVariants as at;
-ghost use Rattle.cell_callers.specs.{declared.report_codes.TheConstants.LOOKED, CallerStates.{IfMcs, IsOne}, HandleContents.KernelState, CallReports.{GoesBehind, ReportsCalled, ReportsCalledAt}, Codes.{kept_code, looks_after}, Places.{IsAway, IsPlaceOf}};
+ghost use Rattle.cell_callers.specs.{declared.report_codes.TheConstants.AGAIN, CallerStates.{IfMcs, IsOne}, HandleContents.KernelState, CallReports.{GoesBehind, ReportsCalled, ReportsCalledAt}, Codes.{kept_code, looks_after}, Places.{IsAway, IsPlaceOf}};
 ghost use Rattle.ticket_lock.specs.Passes.{IsPassOf as IsTicketPassOf};
 ghost use Rattle.mcs_lock.specs.Passes.{IsPassOf as IsMcsPassOf, IsBehindOf, IsPassingOf, state_of_behind, state_of_passing};
 ghost use Rattle.word_rule.specs.{Mcs.Steps.IsPass, Passes.state_of_pass};
@@ -14,7 +14,7 @@ ghost use Rattle.std_alloc.specs.Arc.{arc_value};
 use crate::arrival::line_up;
 use crate::call_numbers::Answered;
 use crate::place::put_line;
-use crate::report_codes::{DONE, FULL, LOOKED, answer_code, call_code, count_look, kept_code};
+use crate::report_codes::{AGAIN, DONE, LOG_FULL, answer_code, call_code, count_look, kept_code};
 use crate::whole::{apply_held, call_arrived};
 use crate::{Caller, CallerPlace, CallerState, call_in_line};
 use core::mem::replace;
@@ -52,11 +52,11 @@ fn wait_drawn(line: &mut Line, drawn: Drawn<KernelObject>, looks: &mut u64) -> u
     requires { line.old ≡ None }
     ensures line { line.new ≡ Some (at.Drawn drawn) }
     ensures looks { looks.new ≡ looks_after true looks.old }
-    ensures reported { result ≡ LOOKED }
+    ensures reported { result ≡ AGAIN }
 {
     put_line(line, CallerState::Drawn(drawn));
     count_look(true, looks);
-    LOOKED
+    AGAIN
 }
 
 // It is behind another: it arms itself, links itself, and looks.
@@ -124,7 +124,7 @@ fn straight_ticket(
 {
     match cell.look(cell.draw(pass)) {
         Ok(mut hold) => {
-            let reported = answer_code(apply_held(&mut hold, &call), DONE, FULL, answered);
+            let reported = answer_code(apply_held(&mut hold, &call), DONE, LOG_FULL, answered);
             place.pass = Some(cell.serve(hold));
             count_look(true, looks);
             reported
@@ -154,7 +154,7 @@ fn straight_mcs(
         Entered::Hold(hold) => hold,
         Entered::Behind(behind) => return come_behind(any, place, behind, call, answered, looks),
     };
-    let reported = answer_code(apply_held(&mut hold, &call), DONE, FULL, answered);
+    let reported = answer_code(apply_held(&mut hold, &call), DONE, LOG_FULL, answered);
     let back = match cell.see(hold) {
         Ok(passing) => pass_on(cell, passing),
         Err(alone) => match cell.empty(alone) {

@@ -1,6 +1,6 @@
 -- What each call from C on a cell does, and reports.
 use Rattle.std.specs.Prelude.{◌≡◌, ℕ, Bool, true, false, Option, Some, None, Result, Ok, Err}
-use Rattle.cell_callers.specs.{declared.report_codes.TheConstants.{REFUSED, BUSY, DONE, NOT_THERE}, declared.report_codes.TheConstants.NO_MEMORY, Codes.opening_code, declared.handle_content.HandleContent.HandleContent, declared.handle_content.HandleContent.TheVariants.{Empty, Caller}, declared.opening.Opening.Opening, declared.opening.NotOpened.NotOpened, declared.cell_lifetime.NoNewCaller.NoNewCaller, declared.cell_lifetime.NoNewCaller.TheVariants.{NoneLeft, NoShare}, declared.cell_lifetime.NotClosed.NotClosed, declared.cell_lifetime.NotClosed.TheVariants.{NotAllBack, Shared}, HandleContents.KernelCaller, declared.logged_step.LoggedStep.LoggedStep, Reopenings.{IsReopenedBy, IsForgotten}, CellContents.{IsOpenedBy, IsNewCallerIn, IsOwn, IsReturnedTo, IsClosedBy, step_of, may_be_freed}}
+use Rattle.cell_callers.specs.{declared.report_codes.TheConstants.{REFUSED, BUSY, DONE, NOT_FOUND}, declared.report_codes.TheConstants.NO_MEMORY, Codes.opening_code, declared.handle_content.HandleContent.HandleContent, declared.handle_content.HandleContent.TheVariants.{Empty, Caller}, declared.opening.Opening.Opening, declared.opening.NotOpened.NotOpened, declared.cell_lifetime.NoNewCaller.NoNewCaller, declared.cell_lifetime.NoNewCaller.TheVariants.{NoneLeft, NoShare}, declared.cell_lifetime.NotClosed.NotClosed, declared.cell_lifetime.NotClosed.TheVariants.{NotAllBack, Shared}, HandleContents.KernelCaller, declared.logged_step.LoggedStep.LoggedStep, Reopenings.{IsReopenedBy, IsForgotten}, CellContents.{IsOpenedBy, IsNewCallerIn, IsOwn, IsReturnedTo, IsClosedBy, step_of, may_be_freed}}
 
 abbrev pub ReportsOpening : HandleContent → Opening → ℕ → HandleContent → Type 0
 ReportsOpening before o n after = (reported : Result (Unit {0}) NotOpened) × (n ≡ opening_code reported) × IsOpenedBy before o reported after
@@ -70,7 +70,7 @@ ReportsFreeing content n = n ≡ done_code (may_be_freed content)
 -- what is reported of a step, which is written where there is one
 abbrev pub step_code : LoggedStep → Option LoggedStep → ℕ × LoggedStep
 step_code old (Some s) = (DONE, s)
-step_code old None = (NOT_THERE, old)
+step_code old None = (NOT_FOUND, old)
 
 abbrev pub ReportsStep : HandleContent → ℕ → ℕ → LoggedStep → ℕ → HandleContent → LoggedStep → Type 0
 ReportsStep before i j old n after new = ((n, new) ≡ step_code old (step_of before i j)) × (after ≡ before)

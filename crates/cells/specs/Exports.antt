@@ -3,7 +3,7 @@ use Rattle.std.specs.Prelude.{◌≡◌, ℕ, ◌==◌, ◌||◌, nat_lt, List, 
 use Rattle.core.specs.Mem.{manually_drop_value}
 use Rattle.event_log.specs.{declared.logged.NoRoom.NoRoom, declared.event.TheConstants.MOST_CALLS}
 use Rattle.kernel_object.specs.{declared.call.KCall.KCall, declared.call.KReply.KReply}
-use Rattle.cell_callers.specs.{declared.handle_content.HandleContent.HandleContent, declared.call_numbers.Asked.Asked, declared.call_numbers.Answered.Answered, declared.report_codes.TheConstants.{REFUSED, NOT_THERE}, declared.batching.Batch.Batch, declared.batching.Replies.Replies, BatchCodes.{batch_calls, ReportsWhole}, declared.whole.Whole.Whole, declared.whole.TriedCall.TriedCall, declared.handle.Handle.Handle, declared.progress.Progress.Progress, HandleContents.{IsAcquireStepIn, IsReleaseStepIn, IsTryIn, IsApplyIn, IsBatchIn, IsTryCallIn, KernelSteps}, Coding.called_of, CallReports.ReportsCallOf, Codes.{progress_code, try_code, apply_code, try_call_code, looks_after, has_looked}}
+use Rattle.cell_callers.specs.{declared.handle_content.HandleContent.HandleContent, declared.call_numbers.Asked.Asked, declared.call_numbers.Answered.Answered, declared.report_codes.TheConstants.{REFUSED, NOT_FOUND}, declared.batching.Batch.Batch, declared.batching.Replies.Replies, BatchCodes.{batch_calls, ReportsWhole}, declared.whole.Whole.Whole, declared.whole.TriedCall.TriedCall, declared.handle.Handle.Handle, declared.progress.Progress.Progress, HandleContents.{IsAcquireStepIn, IsReleaseStepIn, IsTryIn, IsApplyIn, IsBatchIn, IsTryCallIn, KernelSteps}, Coding.called_of, CallReports.ReportsCallOf, Codes.{progress_code, try_code, apply_code, try_call_code, looks_after, has_looked}}
 
 -- what the handle has
 abbrev pub content_of : Handle → HandleContent
@@ -22,7 +22,7 @@ ReportsTry before n after = (reported : Option Bool) × (n ≡ try_code reported
 -- a call of these numbers, of which Q says what was done and reported; where there is none, nothing was done, nor written
 abbrev pub IfCall : {S : Type 0} → Option KCall → (KCall → Type 0) → HandleContent → S → ℕ → HandleContent → S → Type 0
 IfCall (Some call) Q before old n after new = Q call
-IfCall None Q before old n after new = (n ≡ NOT_THERE) × (after ≡ before) × (new ≡ old)
+IfCall None Q before old n after new = (n ≡ NOT_FOUND) × (after ≡ before) × (new ≡ old)
 
 abbrev pub ReportsApply : HandleContent → Asked → Answered → ℕ → HandleContent → Answered → Type 0
 ReportsApply before asked old n after new = IfCall (called_of asked) (λ call. (reported : Option (Result KReply NoRoom)) × ((n, new) ≡ apply_code old reported) × IsApplyIn call before reported after) before old n after new
@@ -34,7 +34,7 @@ ReportsCall before asked old n after new = IfCall (called_of asked) (λ call. Re
 -- a batch of these calls; where one isn't there, nothing was done, nor written
 abbrev pub ReportsBatchOf : Option (List KCall) → HandleContent → Replies × ℕ → ℕ → HandleContent → Replies × ℕ → Type 0
 ReportsBatchOf (Some calls) before old n after new = (reported : Whole (Result KernelSteps NoRoom)) × ReportsWhole reported n old.0 new.0 × (new.1 ≡ looks_after (has_looked reported) old.1) × IsBatchIn calls before reported after
-ReportsBatchOf None before old n after new = (n ≡ NOT_THERE) × (after ≡ before) × (new ≡ old)
+ReportsBatchOf None before old n after new = (n ≡ NOT_FOUND) × (after ≡ before) × (new ≡ old)
 
 -- it has no call, or more than 8
 abbrev pub is_unfit : Batch → Bool

@@ -1,11 +1,11 @@
 //! The calls that C has on a cell, and on a new handle.
 
 ghost use Rattle.std.specs.Prelude.{◌≡◌, ◌⊎◌, ◌↔◌};
-ghost use Rattle.cell_callers.specs.{declared.report_codes.TheConstants.{BAD_OPENING, DONE, NO_MEMORY}, CellContents.IsBadOpening, declared.handle_content.HandleContent.TheVariants.Empty};
+ghost use Rattle.cell_callers.specs.{declared.report_codes.TheConstants.{BAD_PARAM, DONE, NO_MEMORY}, CellContents.IsBadOpening, declared.handle_content.HandleContent.TheVariants.Empty};
 ghost use Rattle.cells.specs.{Exports.content_of, CellExports.{ReportsOpening, ReportsReopening, ReportsForgetting, ReportsNewCaller, ReportsReturn, ReportsClosing, ReportsFreeing, ReportsStep, owns_back}};
 
 use cell_callers::{
-    BUSY, Caller, CallerState, DONE, Handle, HandleContent, LoggedStep, NO_MEMORY, NOT_THERE,
+    BUSY, Caller, CallerState, DONE, Handle, HandleContent, LoggedStep, NO_MEMORY, NOT_FOUND,
     NoNewCaller, NotClosed, Opening, Parts, REFUSED, opening_code, with_content,
 };
 use kernel_object::KernelObject;
@@ -43,7 +43,7 @@ fn drop_caller(caller: Caller<KernelObject>) {
 
 /// Makes a handle that has nothing, and writes its pointer.
 #[unsafe(no_mangle)]
-pub extern "C" fn mc2_handle_new(alloc: Global, own: &mut *mut u8) -> u32
+pub extern "C" fn mc2_handle_alloc(alloc: Global, own: &mut *mut u8) -> u32
     ensures codes { (result ≡ DONE) ⊎ (result ≡ NO_MEMORY) }
     ensures nothing { result ≡ NO_MEMORY → own.new ≡ own.old }
 {
@@ -77,9 +77,9 @@ pub extern "C" fn mc2_handle_free(handle: Handle) -> u32
 
 /// Opens a cell.
 #[unsafe(no_mangle)]
-pub extern "C" fn mc2_handle_open(alloc: Global, cell: &mut Handle, opening: &Opening) -> u32
+pub extern "C" fn mc2_handle_open_cell(alloc: Global, cell: &mut Handle, opening: &Opening) -> u32
     ensures opened { ReportsOpening (content_of cell.old) opening.now result (content_of cell.new) }
-    ensures judged { IsBadOpening (content_of cell.old) opening.now ↔ (result ≡ BAD_OPENING) }
+    ensures judged { IsBadOpening (content_of cell.old) opening.now ↔ (result ≡ BAD_PARAM) }
 {
     opening_code(with_content(
         cell,
@@ -90,7 +90,7 @@ pub extern "C" fn mc2_handle_open(alloc: Global, cell: &mut Handle, opening: &Op
 
 /// Makes a caller of the greatest CPU of the cell that has none yet.
 #[unsafe(no_mangle)]
-pub extern "C" fn mc2_handle_deal(cell: &mut Handle, caller: &mut Handle) -> u32
+pub extern "C" fn mc2_handle_open_caller(cell: &mut Handle, caller: &mut Handle) -> u32
     ensures { ReportsNewCaller (content_of cell.old) (content_of caller.old) result (content_of cell.new) (content_of caller.new) }
 {
     match take_content(caller) {
@@ -111,7 +111,7 @@ pub extern "C" fn mc2_handle_deal(cell: &mut Handle, caller: &mut Handle) -> u32
 
 /// Takes an idle caller back, of the least CPU that wasn't taken back yet.
 #[unsafe(no_mangle)]
-pub extern "C" fn mc2_cell_take_back(cell: &mut Handle, caller: &mut Handle) -> u32
+pub extern "C" fn mc2_handle_return_caller(cell: &mut Handle, caller: &mut Handle) -> u32
     requires { owns_back (content_of cell.old) (content_of caller.old) }
     ensures { ReportsReturn (content_of cell.old) (content_of caller.old) result (content_of cell.new) (content_of caller.new) }
 {
@@ -136,7 +136,7 @@ pub extern "C" fn mc2_cell_take_back(cell: &mut Handle, caller: &mut Handle) -> 
 
 /// Ends the cell, once all callers were taken back.
 #[unsafe(no_mangle)]
-pub extern "C" fn mc2_cell_close(cell: &mut Handle) -> u32
+pub extern "C" fn mc2_handle_close_cell(cell: &mut Handle) -> u32
     ensures { ReportsClosing (content_of cell.old) result (content_of cell.new) }
 {
     match with_content(cell, (), |content, ()| content.close()) {
@@ -148,7 +148,12 @@ pub extern "C" fn mc2_cell_close(cell: &mut Handle) -> u32
 
 /// Opens a cell of that lock and so many CPUs on the object of one that was closed. The log goes on.
 #[unsafe(no_mangle)]
-pub extern "C" fn mc2_cell_reopen(alloc: Global, cell: &mut Handle, lock: u32, cpus: u32) -> u32
+pub extern "C" fn mc2_handle_reopen_cell(
+    alloc: Global,
+    cell: &mut Handle,
+    lock: u32,
+    cpus: u32,
+) -> u32
     ensures { ReportsReopening (content_of cell.old) lock cpus result (content_of cell.new) }
 {
     let how = (lock, cpus);
@@ -161,7 +166,7 @@ pub extern "C" fn mc2_cell_reopen(alloc: Global, cell: &mut Handle, lock: u32, c
 
 /// From now on the log of a cell that was closed isn't kept, and has room for 2^64 - 1 events.
 #[unsafe(no_mangle)]
-pub extern "C" fn mc2_cell_forget(alloc: Global, cell: &mut Handle) -> u32
+pub extern "C" fn mc2_handle_drop_log(alloc: Global, cell: &mut Handle) -> u32
     ensures { ReportsForgetting (content_of cell.old) result (content_of cell.new) }
 {
     if with_content(cell, (), |content, ()| content.forget(alloc)) {
@@ -173,7 +178,7 @@ pub extern "C" fn mc2_cell_forget(alloc: Global, cell: &mut Handle) -> u32
 
 /// The step at that place of an event of a cell that has ended, both from 0. It is written where there is one.
 #[unsafe(no_mangle)]
-pub extern "C" fn mc2_cell_step(
+pub extern "C" fn mc2_handle_read_step(
     cell: &mut Handle,
     event: usize,
     step: usize,
@@ -190,6 +195,6 @@ pub extern "C" fn mc2_cell_step(
             *reported = step;
             DONE
         }
-        None => NOT_THERE,
+        None => NOT_FOUND,
     }
 }

@@ -6,15 +6,16 @@ mod handles;
 mod names;
 
 pub use exports::{
-    mc2_caller_advance, mc2_caller_apply, mc2_caller_batch, mc2_caller_call, mc2_caller_leave,
-    mc2_caller_try, mc2_caller_try_call,
+    mc2_acquire_step, mc2_apply_step, mc2_poll_batch, mc2_poll_call, mc2_poll_try_acquire,
+    mc2_poll_try_call, mc2_release_step,
 };
 pub use handles::{
-    mc2_cell_close, mc2_cell_forget, mc2_cell_reopen, mc2_cell_step, mc2_cell_take_back,
-    mc2_handle_deal, mc2_handle_free, mc2_handle_new, mc2_handle_open,
+    mc2_handle_alloc, mc2_handle_close_cell, mc2_handle_drop_log, mc2_handle_free,
+    mc2_handle_open_caller, mc2_handle_open_cell, mc2_handle_read_step, mc2_handle_reopen_cell,
+    mc2_handle_return_caller,
 };
 pub use names::{
-    mc2_call_alloc, mc2_call_deq, mc2_call_enq, mc2_call_free, mc2_call_get, mc2_call_left,
-    mc2_call_len, mc2_call_level, mc2_call_next, mc2_call_put, mc2_call_ready, mc2_call_remove,
-    mc2_call_sleep, mc2_call_wake, mc2_call_wakeall,
+    mc2_poll_alloc, mc2_poll_deq, mc2_poll_enq, mc2_poll_free, mc2_poll_get, mc2_poll_left,
+    mc2_poll_len, mc2_poll_level, mc2_poll_next, mc2_poll_put, mc2_poll_ready, mc2_poll_remove,
+    mc2_poll_sleep, mc2_poll_wake, mc2_poll_wakeall,
 };

@@ -37,7 +37,7 @@ fn call_by_name(caller: &mut Handle, call: KCall, answered: &mut Answered, looks
 
 /// It puts the thread at the end of a queue.
 #[unsafe(no_mangle)]
-pub extern "C" fn mc2_call_enq(
+pub extern "C" fn mc2_poll_enq(
     caller: &mut Handle,
     thread: u32,
     answered: &mut Answered,
@@ -55,7 +55,7 @@ pub extern "C" fn mc2_call_enq(
 
 /// It takes the first thread of a queue.
 #[unsafe(no_mangle)]
-pub extern "C" fn mc2_call_deq(caller: &mut Handle, answered: &mut Answered, looks: &mut u64) -> u32
+pub extern "C" fn mc2_poll_deq(caller: &mut Handle, answered: &mut Answered, looks: &mut u64) -> u32
     ensures { ReportsCallOf (Queue queue.Deq) (content_of caller.old) (answered.old, looks.old) result (content_of caller.new) (answered.new, looks.new) }
 {
     call_by_name(caller, KCall::Queue(QueueCall::Deq), answered, looks)
@@ -63,7 +63,7 @@ pub extern "C" fn mc2_call_deq(caller: &mut Handle, answered: &mut Answered, loo
 
 /// It takes the thread out of a queue.
 #[unsafe(no_mangle)]
-pub extern "C" fn mc2_call_remove(
+pub extern "C" fn mc2_poll_remove(
     caller: &mut Handle,
     thread: u32,
     answered: &mut Answered,
@@ -81,7 +81,7 @@ pub extern "C" fn mc2_call_remove(
 
 /// It counts the threads of a queue.
 #[unsafe(no_mangle)]
-pub extern "C" fn mc2_call_len(caller: &mut Handle, answered: &mut Answered, looks: &mut u64) -> u32
+pub extern "C" fn mc2_poll_len(caller: &mut Handle, answered: &mut Answered, looks: &mut u64) -> u32
     ensures { ReportsCallOf (Queue queue.Len) (content_of caller.old) (answered.old, looks.old) result (content_of caller.new) (answered.new, looks.new) }
 {
     call_by_name(caller, KCall::Queue(QueueCall::Len), answered, looks)
@@ -89,7 +89,7 @@ pub extern "C" fn mc2_call_len(caller: &mut Handle, answered: &mut Answered, loo
 
 /// It gives the least free page of a pool to the owner.
 #[unsafe(no_mangle)]
-pub extern "C" fn mc2_call_alloc(
+pub extern "C" fn mc2_poll_alloc(
     caller: &mut Handle,
     owner: u32,
     answered: &mut Answered,
@@ -102,7 +102,7 @@ pub extern "C" fn mc2_call_alloc(
 
 /// It takes the page back from the owner.
 #[unsafe(no_mangle)]
-pub extern "C" fn mc2_call_free(
+pub extern "C" fn mc2_poll_free(
     caller: &mut Handle,
     owner: u32,
     page: u32,
@@ -121,7 +121,7 @@ pub extern "C" fn mc2_call_free(
 
 /// It counts the free pages of a pool.
 #[unsafe(no_mangle)]
-pub extern "C" fn mc2_call_left(
+pub extern "C" fn mc2_poll_left(
     caller: &mut Handle,
     answered: &mut Answered,
     looks: &mut u64,
@@ -133,7 +133,7 @@ pub extern "C" fn mc2_call_left(
 
 /// It puts the byte at the end of a console.
 #[unsafe(no_mangle)]
-pub extern "C" fn mc2_call_put(
+pub extern "C" fn mc2_poll_put(
     caller: &mut Handle,
     byte: u8,
     answered: &mut Answered,
@@ -151,7 +151,7 @@ pub extern "C" fn mc2_call_put(
 
 /// It takes the first byte of a console.
 #[unsafe(no_mangle)]
-pub extern "C" fn mc2_call_get(caller: &mut Handle, answered: &mut Answered, looks: &mut u64) -> u32
+pub extern "C" fn mc2_poll_get(caller: &mut Handle, answered: &mut Answered, looks: &mut u64) -> u32
     ensures { ReportsCallOf (Console console.Get) (content_of caller.old) (answered.old, looks.old) result (content_of caller.new) (answered.new, looks.new) }
 {
     call_by_name(caller, KCall::Console(ConsoleCall::Get), answered, looks)
@@ -159,7 +159,7 @@ pub extern "C" fn mc2_call_get(caller: &mut Handle, answered: &mut Answered, loo
 
 /// It counts the bytes of a console.
 #[unsafe(no_mangle)]
-pub extern "C" fn mc2_call_level(
+pub extern "C" fn mc2_poll_level(
     caller: &mut Handle,
     answered: &mut Answered,
     looks: &mut u64,
@@ -171,7 +171,7 @@ pub extern "C" fn mc2_call_level(
 
 /// It puts the thread at the end of the ready list.
 #[unsafe(no_mangle)]
-pub extern "C" fn mc2_call_ready(
+pub extern "C" fn mc2_poll_ready(
     caller: &mut Handle,
     thread: u32,
     answered: &mut Answered,
@@ -189,7 +189,7 @@ pub extern "C" fn mc2_call_ready(
 
 /// It takes the first ready thread.
 #[unsafe(no_mangle)]
-pub extern "C" fn mc2_call_next(
+pub extern "C" fn mc2_poll_next(
     caller: &mut Handle,
     answered: &mut Answered,
     looks: &mut u64,
@@ -201,7 +201,7 @@ pub extern "C" fn mc2_call_next(
 
 /// It puts the thread at the end of the channel.
 #[unsafe(no_mangle)]
-pub extern "C" fn mc2_call_sleep(
+pub extern "C" fn mc2_poll_sleep(
     caller: &mut Handle,
     channel: u32,
     thread: u32,
@@ -220,7 +220,7 @@ pub extern "C" fn mc2_call_sleep(
 
 /// It makes the first sleeper of the channel ready.
 #[unsafe(no_mangle)]
-pub extern "C" fn mc2_call_wake(
+pub extern "C" fn mc2_poll_wake(
     caller: &mut Handle,
     channel: u32,
     answered: &mut Answered,
@@ -238,7 +238,7 @@ pub extern "C" fn mc2_call_wake(
 
 /// It makes all sleepers of the channel ready.
 #[unsafe(no_mangle)]
-pub extern "C" fn mc2_call_wakeall(
+pub extern "C" fn mc2_poll_wakeall(
     caller: &mut Handle,
     channel: u32,
     answered: &mut Answered,

@@ -2,7 +2,7 @@
 use Rattle.std.specs.Prelude.{ℕ, ◌≡◌, ◌+◌, List, ◌∷◌, ◌++◌, length, map, drop, Option, Some, None}
 use Rattle.custom_records.specs.{LineReading.{any_head, log_at, custom_object_at, custom_event_at}, Custom.{CustomStep, CustomEvent}, Said.{Said, padded}, Settings.CustomSettings}
 use Rattle.record_lines.specs.{Reading.{◌>>=◌, words, word_at}, LineParts.name_word_at, Words.NoEnd}
-use Rattle.judge.specs.{declared.own_report.LineReport.LineReport, declared.own_report.SaidReport.SaidReport, declared.own_report.StepReport.StepReport}
+use Rattle.judge.specs.{declared.custom_report.LineReport.LineReport, declared.custom_report.SaidReport.SaidReport, declared.custom_report.StepReport.StepReport}
 
 -- a line with its end begins at that byte
 pub record IsLineAt (text : List ℕ) (at : ℕ) (line : List ℕ) : Type 0 where

@@ -28,7 +28,7 @@ fn count_of(alloc: Global, text: &[u8], object: usize, log: usize) -> Report
 /// Reports how many steps of the log whose head begins at the byte `log`, from the first on, are as the object answers whose line
 /// begins at the byte `object`, if that is a queue, a pool, a console or a sched.
 #[unsafe(no_mangle)]
-pub extern "C" fn mc2_own_kernel(
+pub extern "C" fn mc2_custom_kernel(
     alloc: Global,
     text: &[u8],
     object: usize,

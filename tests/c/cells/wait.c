@@ -13,7 +13,7 @@ static uint64_t pauses, paused_after, naps, microseconds;
 
 #define MC2_PAUSE(looks) (pauses++, paused_after = (looks))
 #ifdef NAPS
-#define MC2_NAP(time) (naps++, microseconds += (time))
+#define MC2_USLEEP(time) (naps++, microseconds += (time))
 #else
 #define MC2_FREESTANDING
 #endif
@@ -43,21 +43,21 @@ enum { HAS_NAPS = 0 };
 
 // A caller that looks in vain so often, and then gets its turn.
 static void check_line(uint64_t looks) {
-    struct mc2_resting resting = {0};
+    struct mc2_waiters resting = {0};
     uint64_t long_wait = HAS_NAPS ? 120 : UINT64_MAX;
     for (uint64_t vain = 1; vain <= looks; vain++) {
-        mc2_rest(&resting, vain);
+        mc2_backoff(&resting, vain);
         CHECK(vain < long_wait ? were(0, 0, 1) && paused_after == vain : were(1, 100, 0));
         CHECK(resting.word == (vain >= long_wait));
     }
-    mc2_rise(&resting, looks);
+    mc2_backoff_end(&resting, looks);
     CHECK(resting.word == 0 && were(0, 0, 0));
 }
 
 // A caller that comes while so many nap in line, and so many others are outside.
 static void check_outside(uint64_t napping, uint64_t others) {
-    struct mc2_resting resting = {others << 32 | napping};
-    mc2_stay_outside(&resting);
+    struct mc2_waiters resting = {others << 32 | napping};
+    mc2_throttle(&resting);
     uint64_t counted = others < 64 ? others : 64;
     CHECK(HAS_NAPS && napping > 0 ? were(1, 1000 + 250 * counted, 0) : were(0, 0, 0));
     CHECK(resting.word == (others << 32 | napping));

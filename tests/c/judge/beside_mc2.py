@@ -7,7 +7,7 @@ examples/, and each text that a row has mc2 audit, merge or upgrade, good or bad
   audit, merge  by examples/judge/judge.c, eight texts at once, each on a thread of its own
   refusals      by refusals.c, where each block of memory is refused; and once more four texts that take much memory
   rust          by examples/judge/judge.rs, which ends with 0 if the record is sound, and else with 1
-  own           by examples/own/own.c the records 2 of rows, made records 3
+  own           by examples/custom/custom.c the records 2 of rows, made records 3
 """
 import os
 import sys

@@ -1,14 +1,14 @@
 /* use: judged < CASES
 
-   Judges texts by the three functions of mc2_own.h, for CTest, and prints what is told. Each case is, as numbers of
+   Judges texts by the three functions of mc2_custom.h, for CTest, and prints what is told. Each case is, as numbers of
    64 bits, the length of a text, how many counts there are and how many places the room has; then the counts, and the text. For
-   each case a line is printed: the kind and the numbers that mc2_own_audit tells, those that mc2_own_merge tells, the places of
-   the room that it wrote, and a digest of what mc2_own_line tells of each line, at its beginning and one byte further on.
+   each case a line is printed: the kind and the numbers that mc2_custom_audit tells, those that mc2_custom_merge tells, the places of
+   the room that it wrote, and a digest of what mc2_custom_line tells of each line, at its beginning and one byte further on.
 
    The text ends where a page begins that nobody may read, and behind the room nothing may be written. The status is 0, 1 at the
    first answer that can't be, and 3 where the system refuses something. */
 #define _DEFAULT_SOURCE
-#include "mc2_own.h"
+#include "mc2_custom.h"
 #include <stdio.h>
 #include <stdlib.h>
 #include <string.h>
@@ -17,8 +17,8 @@
 enum { PAGE = 4096, MOST_TEXT = 1 << 16, MOST_TURNS = 128, UNTOUCHED = 0xa5 };
 
 static uint8_t *behind_text;
-static struct mc2_turn room[MOST_TURNS + 1];
-static uint64_t counts[2 * MC2_OWN_OBJECTS];
+static struct mc2_entry_id room[MOST_TURNS + 1];
+static uint64_t counts[2 * MC2_CUSTOM_OBJECTS];
 
 static void fail(const char *what, int status) {
     fprintf(stderr, "judged: %s\n", what);
@@ -40,7 +40,7 @@ static void open_text(void) {
 static void add(uint64_t *digest, uint64_t number) { *digest = (*digest ^ number) * 0x100000001b3u + (*digest >> 29); }
 
 static void add_word(uint64_t *digest, const uint8_t *word) {
-    for (size_t at = 0; at < MC2_OWN_LETTERS; at++)
+    for (size_t at = 0; at < MC2_CUSTOM_LETTERS; at++)
         add(digest, word[at]);
 }
 
@@ -49,13 +49,13 @@ static void add_numbers(uint64_t *digest, const uint64_t *numbers, uint64_t coun
         add(digest, numbers[at]);
 }
 
-static void add_said(uint64_t *digest, const struct mc2_own_said *said) {
+static void add_said(uint64_t *digest, const struct mc2_custom_term *said) {
     add_word(digest, said->word);
     add(digest, said->count);
     add_numbers(digest, said->numbers, said->count);
 }
 
-static void add_event(uint64_t *digest, const struct mc2_own_line *line) {
+static void add_event(uint64_t *digest, const struct mc2_custom_line *line) {
     add(digest, line->cpu);
     add(digest, line->count);
     for (uint64_t at = 0; at < line->count; at++) {
@@ -64,7 +64,7 @@ static void add_event(uint64_t *digest, const struct mc2_own_line *line) {
     }
 }
 
-static void add_object(uint64_t *digest, const struct mc2_own_line *line) {
+static void add_object(uint64_t *digest, const struct mc2_custom_line *line) {
     add_word(digest, line->object_kind);
     add(digest, line->count);
     add_numbers(digest, line->numbers, line->count);
@@ -72,19 +72,19 @@ static void add_object(uint64_t *digest, const struct mc2_own_line *line) {
 
 /* Adds what is told of the line at that byte. */
 static void add_line(uint64_t *digest, const uint8_t *text, size_t length, size_t at) {
-    struct mc2_own_line line;
+    struct mc2_custom_line line;
     memset(&line, UNTOUCHED, sizeof line);
-    mc2_own_line(text, length, at, &line);
+    mc2_custom_line(text, length, at, &line);
     add(digest, line.kind);
-    if (line.kind != MC2_OWN_NONE)
+    if (line.kind != MC2_CUSTOM_NONE)
         add(digest, line.next);
-    if (line.kind == MC2_OWN_OBJECT || line.kind == MC2_OWN_LOG) {
+    if (line.kind == MC2_CUSTOM_OBJECT || line.kind == MC2_CUSTOM_LOG) {
         add_word(digest, line.name);
         add(digest, line.limit);
     }
-    if (line.kind == MC2_OWN_OBJECT)
+    if (line.kind == MC2_CUSTOM_OBJECT)
         add_object(digest, &line);
-    if (line.kind == MC2_OWN_EVENT)
+    if (line.kind == MC2_CUSTOM_EVENT)
         add_event(digest, &line);
 }
 
@@ -102,7 +102,7 @@ static uint64_t digest_of(const uint8_t *text, size_t length) {
 
 /* ---- The cases */
 
-static void put(const struct mc2_told *told) {
+static void put(const struct mc2_report *told) {
     printf("%u %llu %llu %llu|", (unsigned)told->kind, (unsigned long long)told->first, (unsigned long long)told->second,
            (unsigned long long)told->third);
 }
@@ -120,13 +120,13 @@ static void check_untouched(size_t from) {
 }
 
 static void judge(const uint8_t *text, size_t length, size_t objects, size_t turns) {
-    struct mc2_told told;
+    struct mc2_report told;
     memset(room, UNTOUCHED, sizeof room);
     memset(&told, UNTOUCHED, sizeof told);
-    mc2_own_audit(text, length, counts, objects, &told);
+    mc2_custom_audit(text, length, counts, objects, &told);
     put(&told);
     memset(&told, UNTOUCHED, sizeof told);
-    mc2_own_merge(text, length, counts, objects, room, turns, &told);
+    mc2_custom_merge(text, length, counts, objects, room, turns, &told);
     put(&told);
     size_t written = told.kind == MC2_SOUND || told.kind == MC2_CYCLE ? (size_t)told.first : 0;
     if (written > turns)

@@ -6,9 +6,9 @@ Compares what is told of random records 3, and of texts that are nearly records.
   small    small records by judged.c: each fault by its definition, orders by trying all
   crossed  sound records whose entries are in another order than they were done, with all room and with little
   changed  texts of which two programs of judged.c have to tell the same; each tenth is read by tools/lib/texts too
-  planted  ten faults in a buffer and in counts of references: own.c prints at most 15 steps of each, and names the culprit
-  wide     a record of 256 CPUs and 256 objects, whose order by own.c has to be one
-  refused  the records of examples/own and a large one by refusals.c, where each block of memory is refused
+  planted  ten faults in a buffer and in counts of references: custom.c prints at most 15 steps of each, and names the culprit
+  wide     a record of 256 CPUs and 256 objects, whose order by custom.c has to be one
+  refused  the records of examples/custom and a large one by refusals.c, where each block of memory is refused
 """
 import random
 import re
@@ -35,7 +35,7 @@ KINDS = ["sound", "too long", "wrong step", "room was left", "not its event", "n
 # The most steps that are printed of a planted fault.
 MOST_LINES = 15
 WIDE = 256, 256, 20_000
-RECORDS = sorted((ROOT / "examples/own/records").iterdir())
+RECORDS = sorted((ROOT / "examples/custom/records").iterdir())
 PLACE = re.compile(r"cpu (\d+) entry (\d+)")
 
 
@@ -47,7 +47,7 @@ def case(text, counts, turns):
 
 
 def answer_of(line):
-    """What mc2_own_audit tells, what mc2_own_merge tells, and the places that it wrote."""
+    """What mc2_custom_audit tells, what mc2_custom_merge tells, and the places that it wrote."""
     audit, merge, places, _digest = line.split("|")
     pairs = [tuple(int(number) for number in place.split(".")) for place in places.split()]
     return *(tuple(int(number) for number in it.split()) for it in (audit, merge)), pairs

@@ -1,13 +1,13 @@
 /* use: refusals each|none FILE..
 
-   Judges the record of each file by libjudge.a with a heap of its own; a record 3 with the counts of the models of examples/own.
+   Judges the record of each file by libjudge.a with a heap of its own; a record 3 with the counts of the models of examples/custom.
    With `each`, each block is refused in turn: then memory is told to be out, the room is as it was, and nothing is lost. And a
    merge is given too little room, and just enough. A record of the other forms takes no more memory than include/mc2_judge.h
    says. Prints how many files and blocks there were, and of the largest text its bytes and the most that were taken at one time.
 
    Status: 0; 1 at the first answer that can't be, which a line on standard error names; 2 for wrong words; 3 if a file can't be
    read, or the system refuses memory. */
-#include "../../../examples/own/models.h"
+#include "../../../examples/custom/models.h"
 #include "mc2_judge.h"
 #include "text.h"
 #include <string.h>
@@ -69,15 +69,15 @@ struct taken rattle_realloc(void *old, size_t kept, size_t size, size_t align) {
 
 /* ---- The calls */
 
-static struct mc2_own_asked asked;
+static struct mc2_custom_logs asked;
 static bool is_own;
 
 /* A call, with so many places of room and some behind them, and what it was told. */
 struct call {
     bool merges;
     size_t turns;
-    struct mc2_turn *room;
-    struct mc2_told told;
+    struct mc2_entry_id *room;
+    struct mc2_report told;
 };
 
 #define CHECK(what) check(what, #what, __LINE__)
@@ -102,9 +102,9 @@ static void judge(struct call *call, size_t refused) {
     heap.asked = 0;
     heap.refused = refused;
     if (is_own && call->merges)
-        mc2_own_merge(text.bytes, text.length, asked.right, asked.objects, call->room, call->turns, &call->told);
+        mc2_custom_merge(text.bytes, text.length, asked.right, asked.objects, call->room, call->turns, &call->told);
     else if (is_own)
-        mc2_own_audit(text.bytes, text.length, asked.right, asked.objects, &call->told);
+        mc2_custom_audit(text.bytes, text.length, asked.right, asked.objects, &call->told);
     else if (call->merges)
         mc2_merge(text.bytes, text.length, call->room, call->turns, &call->told);
     else
@@ -112,7 +112,7 @@ static void judge(struct call *call, size_t refused) {
     CHECK(heap.blocks == 0 && heap.bytes == 0);
 }
 
-static bool are_untouched(const struct mc2_turn *turns, size_t count) {
+static bool are_untouched(const struct mc2_entry_id *turns, size_t count) {
     const uint8_t *bytes = (const uint8_t *)turns;
     size_t at = 0;
     while (at < count * sizeof *turns && bytes[at] == UNTOUCHED)
@@ -120,11 +120,11 @@ static bool are_untouched(const struct mc2_turn *turns, size_t count) {
     return at == count * sizeof *turns;
 }
 
-static bool is_told(const struct mc2_told *told, uint32_t kind, uint64_t first) {
+static bool is_told(const struct mc2_report *told, uint32_t kind, uint64_t first) {
     return told->kind == kind && told->first == first && told->second == 0 && told->third == 0;
 }
 
-static bool has_turns(const struct mc2_told *told) { return told->kind == MC2_SOUND || told->kind == MC2_CYCLE; }
+static bool has_turns(const struct mc2_report *told) { return told->kind == MC2_SOUND || told->kind == MC2_CYCLE; }
 
 /* Refuses each block of a call in turn, or none, and returns how many there are. */
 static size_t check_memory(bool merges, bool refuses) {
@@ -176,7 +176,7 @@ static size_t check_file(const char *name, bool refuses) {
     is_own = text.length >= strlen(head) && memcmp(text.bytes, head, strlen(head)) == 0;
     heap.refused = 0;
     if (is_own)
-        mc2_own_ask_all(text.bytes, text.length, models, MODELS, &asked);
+        mc2_priv_ask_all(text.bytes, text.length, models, MODELS, &asked);
     heap.most = 0;
     size_t blocks = check_memory(false, refuses) + check_memory(true, refuses);
     if (refuses)

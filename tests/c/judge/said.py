@@ -1,8 +1,8 @@
 #!/usr/bin/env python3
 """use: said.py OWN [OTHER]
 
-Judges the records of examples/own/records by own.c. What `merge` prints is the file `said`, and `audit` prints the same
-verdicts. With OTHER, own.cpp prints the verdicts of own.c.
+Judges the records of examples/custom/records by custom.c. What `merge` prints is the file `said`, and `audit` prints the same
+verdicts. With OTHER, custom.cpp prints the verdicts of custom.c.
 """
 import re
 import sys
@@ -13,7 +13,7 @@ sys.dont_write_bytecode = True
 sys.path.insert(0, str(Path(__file__).resolve().parents[3] / "tools/lib"))
 from common import ROOT, Stop, end, run
 
-OWN = ROOT / "examples/own"
+OWN = ROOT / "examples/custom"
 VERDICT = re.compile(r"^(== .*|sound|unsound: .*)$", re.MULTILINE)
 
 

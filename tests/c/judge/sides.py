@@ -1,5 +1,5 @@
 #!/usr/bin/env python3
-"""use: sides.py mc2_judge.h|mc2_own.h
+"""use: sides.py mc2_judge.h|mc2_custom.h
 
 Compares the structs, numbers and arguments that cross: those of the sources of crates/judge with those of the header. The header
 must not fit once two of them are swapped.
@@ -12,14 +12,14 @@ sys.path.insert(0, str(Path(__file__).resolve().parents[3] / "tools/lib"))
 from common import ROOT, Stop, end, run
 from other_side import EXPORT, text_of
 
-TOLD = {"Report": "mc2_told", "Turn": "mc2_turn"}
-LINES = {"SaidReport": "mc2_own_said", "StepReport": "mc2_own_step", "LineReport": "mc2_own_line"}
+TOLD = {"Report": "mc2_report", "Turn": "mc2_entry_id"}
+LINES = {"SaidReport": "mc2_custom_term", "StepReport": "mc2_custom_step", "LineReport": "mc2_custom_line"}
 VERDICTS = "SOUND TOO_LONG WRONG_STEP ROOM_WAS_LEFT NOT_ITS_EVENT NOT_ASKED UNCLAIMED CYCLE BAD_LINE OUT_OF_MEMORY NO_ROOM".split()
 OWN_NUMBERS = {"NO_LINE": "NONE", "OBJECT_LINE": "OBJECT", "LOG_LINE": "LOG", "EVENT_LINE": "EVENT", "OTHER_LINE": "OTHER",
                "MOST_CUSTOM_CPUS": "CPUS", "MOST_CUSTOM_OBJECTS": "OBJECTS", "MOST_SIZES": "SIZES", "MOST_WORDS": "REFUSING",
                "MOST_LETTERS": "LETTERS", "MOST_NUMBERS": "NUMBERS", "MOST_CALLS": "CALLS", "COUNTED": "COUNTED"}
 NUMBERS = {it: f"MC2_{it}" for it in [*VERDICTS, "MISTOLD"]}
-OWN_NUMBERS = {here: f"MC2_OWN_{there}" for here, there in OWN_NUMBERS.items()} | {it: f"MC2_{it}" for it in ("MISTOLD", "NO_MODEL")}
+OWN_NUMBERS = {here: f"MC2_CUSTOM_{there}" for here, there in OWN_NUMBERS.items()} | {it: f"MC2_{it}" for it in ("MISTOLD", "NO_MODEL")}
 # Of each header: the files of crates/ that have what crosses, their exports, the names in C of structs and numbers, and swaps.
 HEADERS = {
     "mc2_judge.h": (
@@ -32,9 +32,9 @@ HEADERS = {
             "arguments": ("text: &[u8], report: &mut Report)", "report: &mut Report, text: &[u8])"),
             "what is written": ("room: &mut [Turn], report: &mut Report)", "room: &[Turn], report: &mut Report)"),
         }),
-    "mc2_own.h": (
+    "mc2_custom.h": (
         ["judge/src/*.rt", "custom_records/src/*.rt", "event_log/src/*.rt"],
-        {"mc2_own_line", "mc2_own_audit", "mc2_own_merge", "mc2_own_kernel"}, TOLD | LINES,
+        {"mc2_custom_line", "mc2_custom_audit", "mc2_custom_merge", "mc2_custom_kernel"}, TOLD | LINES,
         OWN_NUMBERS, {
             "fields of LineReport": ("    pub next: u64,\n    pub limit: u64,", "    pub limit: u64,\n    pub next: u64,"),
             "lengths": ("    pub numbers: [u64; MOST_NUMBERS],", "    pub numbers: [u64; MOST_SIZES],"),

@@ -1,10 +1,10 @@
 /* use: stack AUDIT MERGE LINE KERNEL FILE..
 
-   Prints the most bytes of stack that mc2_own_audit, mc2_own_merge, mc2_own_line and mc2_own_kernel take to judge these records,
+   Prints the most bytes of stack that mc2_custom_audit, mc2_custom_merge, mc2_custom_line and mc2_custom_kernel take to judge these records,
    by calls on a stack of their own that was filled before. None may take more than its number among the words. The counts are as
    many as an object may have, so each log is judged to its end. Status: 0; 1 if one takes more; 3 if something is refused. */
 #define _GNU_SOURCE
-#include "mc2_own.h"
+#include "mc2_custom.h"
 #include "text.h"
 #include <string.h>
 #include <ucontext.h>
@@ -13,35 +13,35 @@ enum { STACK = 1 << 20, FILLED = 0xa5, EXPORTS = 4 };
 
 static uint8_t stack[STACK] __attribute__((aligned(64)));
 static ucontext_t back, there;
-static struct mc2_own_asked asked;
-static struct mc2_turn *room;
+static struct mc2_custom_logs asked;
+static struct mc2_entry_id *room;
 static int export;
 
 /* How many steps each log has. */
 static void count_all(void) {
-    struct mc2_own_line line;
-    mc2_own_find(text.bytes, text.length, &asked);
+    struct mc2_custom_line line;
+    mc2_priv_find_logs(text.bytes, text.length, &asked);
     for (size_t at = 0; at < asked.objects; at++) {
         asked.right[at] = 0;
-        mc2_own_line(text.bytes, text.length, (size_t)asked.log[at], &line);
-        for (uint64_t left = line.kind == MC2_OWN_LOG ? line.limit : 0; left > 0; left--) {
-            mc2_own_line(text.bytes, text.length, (size_t)line.next, &line);
-            asked.right[at] += line.kind == MC2_OWN_EVENT ? line.count : 0;
+        mc2_custom_line(text.bytes, text.length, (size_t)asked.log[at], &line);
+        for (uint64_t left = line.kind == MC2_CUSTOM_LOG ? line.limit : 0; left > 0; left--) {
+            mc2_custom_line(text.bytes, text.length, (size_t)line.next, &line);
+            asked.right[at] += line.kind == MC2_CUSTOM_EVENT ? line.count : 0;
         }
     }
 }
 
 static void call(void) {
-    struct mc2_told told;
-    struct mc2_own_line line;
+    struct mc2_report told;
+    struct mc2_custom_line line;
     if (export == 0)
-        mc2_own_audit(text.bytes, text.length, asked.right, asked.objects, &told);
+        mc2_custom_audit(text.bytes, text.length, asked.right, asked.objects, &told);
     if (export == 1)
-        mc2_own_merge(text.bytes, text.length, asked.right, asked.objects, room, text.length, &told);
+        mc2_custom_merge(text.bytes, text.length, asked.right, asked.objects, room, text.length, &told);
     for (size_t at = 0; export == 2 && at < text.length; at = (size_t)line.next)
-        mc2_own_line(text.bytes, text.length, at, &line);
+        mc2_custom_line(text.bytes, text.length, at, &line);
     for (size_t at = 0; export == 3 && at < asked.objects; at++)
-        mc2_own_kernel(text.bytes, text.length, (size_t)asked.object[at], (size_t)asked.log[at], &told);
+        mc2_custom_kernel(text.bytes, text.length, (size_t)asked.object[at], (size_t)asked.log[at], &told);
 }
 
 /* The bytes that the call of an export takes. */

@@ -1,12 +1,12 @@
 /* use: witness SEEDS
 
-   Checks include/mc2_own_witness.h: makes that many logs of run queues, allocators and pipes, the last step of which is wrong
+   Checks include/mc2_custom_witness.h: makes that many logs of run queues, allocators and pipes, the last step of which is wrong
    by its model, and finds a witness of each. The steps that are kept have to be right in their order, and the last one wrong
    for the reason that is told, where what is told would have been right. Without any one of them, but for the last one, it mustn't
    be so, unless the search was ended early, which is tried too.
    Prints how many steps there were and how many were kept. The status is 0, or 1 at the first check that fails. */
-#include "../../../examples/own/models.h"
-#include "mc2_own_witness.h"
+#include "../../../examples/custom/models.h"
+#include "mc2_custom_witness.h"
 #include <string.h>
 
 enum { MOST_STEPS = 60, MOST_TEXT = 1 << 14, PLENTY = 1 << 20 };
@@ -48,9 +48,9 @@ static void make_line(unsigned kind, char *line, size_t room) {
 
 /* Whether the model calls the step of the line right. */
 static bool is_right(const struct mc2_model *model, void *state, const char *line) {
-    struct mc2_own_line read;
-    mc2_own_line((const uint8_t *)line, strlen(line), 0, &read);
-    CHECK(read.kind == MC2_OWN_EVENT && read.count == 1);
+    struct mc2_custom_line read;
+    mc2_custom_line((const uint8_t *)line, strlen(line), 0, &read);
+    CHECK(read.kind == MC2_CUSTOM_EVENT && read.count == 1);
     return !model->step(state, &read.steps[0]);
 }
 
@@ -83,25 +83,25 @@ static uint64_t make_log(unsigned kind, const struct mc2_model *model, void *sta
 }
 
 /* Why the last step is wrong behind the others but one, or NULL; and what would have been right. */
-static const char *reason_without(const struct mc2_own_trial *trial, const struct mc2_own_witness *witness, size_t left_out,
+static const char *reason_without(const struct mc2_priv_trial *trial, const struct mc2_custom_witness *witness, size_t left_out,
                                   char *right) {
     void *state = trial->model->open(trial->object.numbers, trial->object.count);
     const char *why = NULL;
     size_t at = 0;
     for (; at <= witness->count && !why; at++) {
-        struct mc2_own_line line;
-        mc2_own_line(trial->text, trial->length, (size_t)witness->steps[at].line, &line);
+        struct mc2_custom_line line;
+        mc2_custom_line(trial->text, trial->length, (size_t)witness->steps[at].line, &line);
         right[0] = 0;
-        trial->model->says(state, &line.steps[witness->steps[at].step].call, right, MC2_OWN_RIGHT);
+        trial->model->says(state, &line.steps[witness->steps[at].step].call, right, MC2_CUSTOM_RIGHT);
         why = at == left_out ? NULL : trial->model->step(state, &line.steps[witness->steps[at].step]);
     }
     trial->model->close(state);
     return at == witness->count + 1 ? why : NULL;
 }
 
-static void check_witness(const struct mc2_own_trial *trial, const struct mc2_own_witness *witness, const char *reason,
+static void check_witness(const struct mc2_priv_trial *trial, const struct mc2_custom_witness *witness, const char *reason,
                           bool is_whole) {
-    char right[MC2_OWN_RIGHT];
+    char right[MC2_CUSTOM_RIGHT];
     const char *why = reason_without(trial, witness, SIZE_MAX, right);
     CHECK(reason && why && strcmp(why, reason) == 0);
     CHECK(witness->is_by_reason || strcmp(right, witness->right) == 0);
@@ -112,17 +112,17 @@ static void check_witness(const struct mc2_own_trial *trial, const struct mc2_ow
 }
 
 /* Finds a witness by that many questions, and says how many steps are kept. */
-static size_t find(const struct mc2_own_asked *asked, uint64_t left) {
-    struct mc2_own_place steps[2 * MOST_STEPS + 1];
-    struct mc2_own_witness witness = {steps, 0, left, "", false};
-    struct mc2_own_trial trial = mc2_own_try((const uint8_t *)text.bytes, text.length, models, MODELS, asked, 0);
-    const char *reason = mc2_own_find_witness(&trial, (size_t)asked->log[0], (size_t)asked->right[0], &witness);
+static size_t find(const struct mc2_custom_logs *asked, uint64_t left) {
+    struct mc2_custom_place steps[2 * MOST_STEPS + 1];
+    struct mc2_custom_witness witness = {steps, 0, left, "", false};
+    struct mc2_priv_trial trial = mc2_priv_try((const uint8_t *)text.bytes, text.length, models, MODELS, asked, 0);
+    const char *reason = mc2_custom_find_witness(&trial, (size_t)asked->log[0], (size_t)asked->right[0], &witness);
     check_witness(&trial, &witness, reason, left == PLENTY);
     return witness.count;
 }
 
 static void check_one(size_t *all, size_t *kept) {
-    static struct mc2_own_asked asked;
+    static struct mc2_custom_logs asked;
     static const uint64_t numbers[3][2] = {{5, 0}, {3, 0}, {8, 4}};
     unsigned kind = below(3);
     void *state = models[kind].open(numbers[kind], kind == 2 ? 2 : 1);
@@ -131,7 +131,7 @@ static void check_one(size_t *all, size_t *kept) {
     models[kind].close(state);
     if (right == 2 * MOST_STEPS)
         return;
-    CHECK(mc2_own_ask_all((const uint8_t *)text.bytes, text.length, models, MODELS, &asked) == 1);
+    CHECK(mc2_priv_ask_all((const uint8_t *)text.bytes, text.length, models, MODELS, &asked) == 1);
     CHECK(asked.right[0] == right);
     find(&asked, below(300));
     *kept += find(&asked, PLENTY);

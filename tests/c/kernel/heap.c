@@ -31,13 +31,13 @@ static void hand_over(size_t size) {
 
 // All that was handed over is free, in one block.
 static void check_free(void) {
-    size_t blocks, bytes = mc2_heap_free(&blocks);
+    size_t blocks, bytes = mc2_heap_available(&blocks);
     CHECK(bytes == handed && blocks <= 1);
 }
 
 static size_t taken(void) {
     size_t blocks;
-    return handed - mc2_heap_free(&blocks);
+    return handed - mc2_heap_available(&blocks);
 }
 
 static const struct mc2_object kinds[] = {
@@ -55,8 +55,8 @@ struct opened {
 };
 
 static uint32_t open_callers(struct opened *it) {
-    uint32_t told = MC2_CELL_DONE;
-    for (uint32_t cpu = it->cpus; cpu > 0 && told == MC2_CELL_DONE; cpu--)
+    uint32_t told = MC2_DONE;
+    for (uint32_t cpu = it->cpus; cpu > 0 && told == MC2_DONE; cpu--)
         told = mc2_caller_open(&it->cell, &it->callers[cpu - 1]);
     return told;
 }
@@ -65,17 +65,17 @@ static uint32_t open_callers(struct opened *it) {
 static uint32_t open_all(struct opened *it, const struct mc2_object *object, uint32_t cpus) {
     memset(it, 0, sizeof *it);
     it->cpus = cpus;
-    uint32_t told = mc2_cell_open(&it->cell, object, cpus);
+    uint32_t told = mc2_cell_open_bare(&it->cell, object, cpus);
     it->of_cell = taken();
-    return told == MC2_CELL_DONE ? open_callers(it) : told;
+    return told == MC2_DONE ? open_callers(it) : told;
 }
 
 static void free_all(struct opened *it) {
     for (uint32_t cpu = 0; cpu < it->cpus; cpu++)
         if (it->callers[cpu].own)
-            CHECK(mc2_caller_free(&it->callers[cpu]) == MC2_CELL_DONE);
+            CHECK(mc2_caller_free(&it->callers[cpu]) == MC2_DONE);
     if (it->cell.own)
-        CHECK(mc2_cell_free(&it->cell) == MC2_CELL_DONE);
+        CHECK(mc2_cell_free_bare(&it->cell) == MC2_DONE);
     check_free();
 }
 
@@ -87,17 +87,17 @@ static unsigned check_exhaustion(const struct mc2_object *object) {
     memset(&mc2_heap, 0, sizeof mc2_heap);
     for (;; refused++) {
         uint32_t told = open_all(&it, object, 2);
-        CHECK(told == MC2_CELL_DONE || told == MC2_CELL_NO_MEMORY);
-        if (told == MC2_CELL_DONE)
+        CHECK(told == MC2_DONE || told == MC2_NO_MEMORY);
+        if (told == MC2_DONE)
             break;
         free_all(&it);
         hand_over(16);
     }
-    struct mc2_call call = mc2_ask(object->kind == MC2_QUEUE ? MC2_LEN : MC2_PUT, 1, 1);
+    struct mc2_call call = mc2_call_of(object->kind == MC2_QUEUE ? MC2_LEN : MC2_PUT, 1, 1);
     struct mc2_reply reply;
     uint64_t looks;
     size_t before = taken();
-    CHECK(mc2_cell_call(&it.callers[0], &call, &reply, &looks) == MC2_CELL_DONE && taken() == before);
+    CHECK(mc2_cell_call(&it.callers[0], &call, &reply, &looks) == MC2_DONE && taken() == before);
     free_all(&it);
     return refused;
 }
@@ -106,7 +106,7 @@ static unsigned check_exhaustion(const struct mc2_object *object) {
 static size_t memory_of(struct mc2_object object, uint32_t events, uint32_t cpus, size_t *of_caller) {
     struct opened it;
     object.events = events;
-    CHECK(open_all(&it, &object, cpus) == MC2_CELL_DONE);
+    CHECK(open_all(&it, &object, cpus) == MC2_DONE);
     *of_caller = (taken() - it.of_cell + cpus - 1) / cpus;
     free_all(&it);
     return it.of_cell;
@@ -155,12 +155,12 @@ static void check_cells(void) {
 
 // No block is so large, not even where its size, with its head, is above SIZE_MAX. What was to grow stays as it was.
 static void check_largest(void) {
-    struct mc2_taken old = rattle_alloc(16, 16);
+    struct mc2_allocation old = rattle_alloc(16, 16);
     size_t before = taken();
     CHECK(old.is_there);
     memcpy(old.at, "0123456789abcdef", 16);
     for (size_t less = 0; less <= 64; less++) {
-        struct mc2_taken none = rattle_alloc(SIZE_MAX - less, 16), same = rattle_alloc(0, SIZE_MAX - less);
+        struct mc2_allocation none = rattle_alloc(SIZE_MAX - less, 16), same = rattle_alloc(0, SIZE_MAX - less);
         CHECK(!none.is_there && none.at && !same.is_there && same.at);
         CHECK(!rattle_realloc(old.at, 16, SIZE_MAX - less, 16).is_there);
     }
@@ -170,12 +170,12 @@ static void check_largest(void) {
 }
 
 static void check_blocks(void) {
-    struct mc2_taken none = rattle_alloc(0, 16), one = rattle_alloc(1, 1), large = rattle_alloc(ROOM, 16);
+    struct mc2_allocation none = rattle_alloc(0, 16), one = rattle_alloc(1, 1), large = rattle_alloc(ROOM, 16);
     CHECK(none.is_there && one.is_there && !large.is_there && large.at && none.at != one.at);
     CHECK((uintptr_t)none.at % 16 == 0 && (uintptr_t)one.at % 16 == 0);
     memcpy(none.at, "0123456789abcdef", 16);
     CHECK(!rattle_realloc(none.at, 16, ROOM, 16).is_there && memcmp(none.at, "0123456789abcdef", 16) == 0);
-    struct mc2_taken moved = rattle_realloc(none.at, 16, 1000, 16);
+    struct mc2_allocation moved = rattle_realloc(none.at, 16, 1000, 16);
     CHECK(moved.is_there && memcmp(moved.at, "0123456789abcdef", 16) == 0);
     rattle_dealloc(one.at);
     rattle_dealloc(moved.at);
@@ -185,10 +185,10 @@ static void check_blocks(void) {
 }
 
 static void *take_and_give(void *number) {
-    struct mc2_taken held[HELD] = {{false, NULL}};
+    struct mc2_allocation held[HELD] = {{false, NULL}};
     uint32_t random = *(unsigned *)number, wrong = 0;
     for (unsigned round = 0; round < ROUNDS; round++) {
-        struct mc2_taken *it = &held[(random = random * 1664525u + 1013904223u) >> 28];
+        struct mc2_allocation *it = &held[(random = random * 1664525u + 1013904223u) >> 28];
         if (it->is_there) {
             wrong += *(unsigned *)it->at != *(unsigned *)number;
             rattle_dealloc(it->at);

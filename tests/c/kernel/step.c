@@ -1,16 +1,16 @@
-// Checks that MC2_STEP stands around each call of the library in the inline functions of include/mc2_cells.h, and around one
+// Checks that MC2_IRQ_OFF stands around each call of the library in the inline functions of include/mc2_cells.h, and around one
 // at a time: then no interrupt that a kernel masks there comes within the library. In its place are the functions below. Each
-// tells what has the header's loops go on, and in the end what ends them. With APART it checks that MC2_OPENING stands around
+// tells what has the header's loops go on, and in the end what ends them. With APART it checks that MC2_ALLOCATING stands around
 // just those that open, close and free.
 //
 // The status is 0, or 1 at the first check that fails, which a line on standard error names.
 static unsigned begin_step(void);
 static unsigned end_step(unsigned told);
 
-#define MC2_STEP(call) end_step((begin_step(), (call)))
+#define MC2_IRQ_OFF(call) end_step((begin_step(), (call)))
 #ifdef APART
 static unsigned begin_opening(void);
-#define MC2_OPENING(call) end_step((begin_opening(), (call)))
+#define MC2_ALLOCATING(call) end_step((begin_opening(), (call)))
 enum { IS_APART = 1 };
 #else
 enum { IS_APART = 0 };
@@ -38,62 +38,62 @@ static void must(bool is_so, const char *what) {
 static uint32_t answer(unsigned *looks, uint32_t told) {
     calls++;
     must(within == 1 && steps == calls, "one step is around each call of the library");
-    return *looks > 0 ? (--*looks, (uint32_t)MC2_CELL_LOOKED) : told;
+    return *looks > 0 ? (--*looks, (uint32_t)MC2_AGAIN) : told;
 }
 
 static unsigned none, to_the_object, back, to_call, to_batch;
 
-uint32_t mc2_handle_new(void **own) { return *own = &calls, answer(&none, MC2_CELL_DONE); }
+uint32_t mc2_handle_alloc(void **own) { return *own = &calls, answer(&none, MC2_DONE); }
 
-uint32_t mc2_handle_free(struct mc2_handle handle) { return (void)handle, answer(&none, MC2_CELL_DONE); }
+uint32_t mc2_handle_free(struct mc2_handle handle) { return (void)handle, answer(&none, MC2_DONE); }
 
-uint32_t mc2_handle_open(struct mc2_cell *cell, const struct mc2_cell_opening *opening) {
-    return (void)cell, (void)opening, answer(&none, MC2_CELL_DONE);
+uint32_t mc2_handle_open_cell(struct mc2_cell *cell, const struct mc2_cell_opening *opening) {
+    return (void)cell, (void)opening, answer(&none, MC2_DONE);
 }
 
-uint32_t mc2_handle_deal(struct mc2_cell *cell, struct mc2_caller *caller) {
-    return (void)cell, (void)caller, answer(&none, MC2_CELL_DONE);
+uint32_t mc2_handle_open_caller(struct mc2_cell *cell, struct mc2_caller *caller) {
+    return (void)cell, (void)caller, answer(&none, MC2_DONE);
 }
 
-uint32_t mc2_caller_advance(struct mc2_caller *caller) { return (void)caller, answer(&to_the_object, MC2_CELL_FOUND); }
+uint32_t mc2_acquire_step(struct mc2_caller *caller) { return (void)caller, answer(&to_the_object, MC2_ACQUIRED_BY_LOOK); }
 
-uint32_t mc2_caller_leave(struct mc2_caller *caller) { return (void)caller, answer(&back, MC2_CELL_LEFT); }
+uint32_t mc2_release_step(struct mc2_caller *caller) { return (void)caller, answer(&back, MC2_RELEASED); }
 
-uint32_t mc2_caller_call(struct mc2_caller *caller, const struct mc2_call *call, struct mc2_reply *reply, uint64_t *looks) {
-    return (void)caller, (void)call, (void)reply, (void)looks, answer(&to_call, MC2_CELL_DONE_KEPT);
+uint32_t mc2_poll_call(struct mc2_caller *caller, const struct mc2_call *call, struct mc2_reply *reply, uint64_t *looks) {
+    return (void)caller, (void)call, (void)reply, (void)looks, answer(&to_call, MC2_DONE_HELD);
 }
 
 // By its name a call tells what it tells by its number.
 #define NAMED(name) \
     uint32_t mc2_call_##name(struct mc2_caller *caller, struct mc2_reply *reply, uint64_t *looks) { \
-        return mc2_caller_call(caller, NULL, reply, looks); \
+        return mc2_poll_call(caller, NULL, reply, looks); \
     }
 #define NAMED_WITH(name, type) \
     uint32_t mc2_call_##name(struct mc2_caller *caller, type first, struct mc2_reply *reply, uint64_t *looks) { \
-        return (void)first, mc2_caller_call(caller, NULL, reply, looks); \
+        return (void)first, mc2_poll_call(caller, NULL, reply, looks); \
     }
 #define NAMED_WITH_TWO(name) \
     uint32_t mc2_call_##name(struct mc2_caller *caller, uint32_t first, uint32_t second, struct mc2_reply *reply, uint64_t *looks) { \
-        return (void)first, (void)second, mc2_caller_call(caller, NULL, reply, looks); \
+        return (void)first, (void)second, mc2_poll_call(caller, NULL, reply, looks); \
     }
 NAMED(deq) NAMED(len) NAMED(left) NAMED(get) NAMED(level) NAMED(next)
 NAMED_WITH(enq, uint32_t) NAMED_WITH(remove, uint32_t) NAMED_WITH(alloc, uint32_t) NAMED_WITH(put, uint8_t)
 NAMED_WITH(ready, uint32_t) NAMED_WITH(wake, uint32_t) NAMED_WITH(wakeall, uint32_t)
 NAMED_WITH_TWO(free) NAMED_WITH_TWO(sleep)
 
-uint32_t mc2_caller_batch(struct mc2_caller *caller, const struct mc2_batch *batch, struct mc2_replies *replies, uint64_t *looks) {
-    return (void)caller, (void)batch, (void)replies, (void)looks, answer(&to_batch, MC2_CELL_DONE_KEPT);
+uint32_t mc2_poll_batch(struct mc2_caller *caller, const struct mc2_batch *batch, struct mc2_replies *replies, uint64_t *looks) {
+    return (void)caller, (void)batch, (void)replies, (void)looks, answer(&to_batch, MC2_DONE_HELD);
 }
 
-uint32_t mc2_caller_try_call(struct mc2_caller *caller, const struct mc2_call *call, struct mc2_reply *reply) {
-    return (void)caller, (void)call, (void)reply, answer(&none, MC2_CELL_DONE_KEPT);
+uint32_t mc2_poll_try_call(struct mc2_caller *caller, const struct mc2_call *call, struct mc2_reply *reply) {
+    return (void)caller, (void)call, (void)reply, answer(&none, MC2_DONE_HELD);
 }
 
-uint32_t mc2_cell_take_back(struct mc2_cell *cell, struct mc2_caller *caller) {
-    return (void)cell, (void)caller, answer(&none, MC2_CELL_DONE);
+uint32_t mc2_handle_return_caller(struct mc2_cell *cell, struct mc2_caller *caller) {
+    return (void)cell, (void)caller, answer(&none, MC2_DONE);
 }
 
-uint32_t mc2_cell_close(struct mc2_cell *cell) { return (void)cell, answer(&none, MC2_CELL_DONE); }
+uint32_t mc2_handle_close_cell(struct mc2_cell *cell) { return (void)cell, answer(&none, MC2_DONE); }
 
 // So many calls of the library were made by then, all of which open, close or free, or none.
 static void made(unsigned count, bool are_openings, const char *what) {
@@ -111,23 +111,23 @@ int main(void) {
     struct mc2_replies replies;
     uint64_t looks;
     to_the_object = back = to_call = to_batch = 2;
-    must(mc2_cell_open(&cell, &object, 1) == MC2_CELL_DONE, "a cell");
+    must(mc2_cell_open_bare(&cell, &object, 1) == MC2_DONE, "a cell");
     made(2, true, "opening a cell is two calls");
-    must(mc2_caller_open(&cell, &caller) == MC2_CELL_DONE, "a caller");
+    must(mc2_caller_open(&cell, &caller) == MC2_DONE, "a caller");
     made(2, true, "opening a caller is two calls");
-    must(mc2_acquire(&caller, &looks) == MC2_CELL_FOUND && mc2_release(&caller) == MC2_CELL_LEFT, "single steps");
+    must(mc2_acquire(&caller, &looks) == MC2_ACQUIRED_BY_LOOK && mc2_release(&caller) == MC2_RELEASED, "single steps");
     made(6, false, "two looks in vain before each end of the steps");
-    must(mc2_cell_call(&caller, &call, &reply, &looks) == MC2_CELL_DONE, "a whole call");
+    must(mc2_cell_call(&caller, &call, &reply, &looks) == MC2_DONE, "a whole call");
     made(4, false, "two looks in vain, the call, a step back");
-    must(mc2_cell_batch(&caller, &batch, &replies, &looks) == MC2_CELL_DONE, "a batch");
+    must(mc2_cell_batch(&caller, &batch, &replies, &looks) == MC2_DONE, "a batch");
     made(4, false, "two looks in vain, the batch, a step back");
-    must(mc2_cell_try_call(&caller, &call, &reply) == MC2_CELL_DONE, "a try");
+    must(mc2_cell_try_call(&caller, &call, &reply) == MC2_DONE, "a try");
     made(2, false, "the try, a step back");
-    must(mc2_caller_free(&caller) == MC2_CELL_DONE && mc2_cell_free(&cell) == MC2_CELL_DONE, "freeing");
+    must(mc2_caller_free(&caller) == MC2_DONE && mc2_cell_free_bare(&cell) == MC2_DONE, "freeing");
     made(2, true, "each freeing is a call");
-    must(mc2_cells_open(&cell, &object, callers, 3) == MC2_CELL_DONE, "a cell with callers");
+    must(mc2_cell_open(&cell, &object, callers, 3) == MC2_DONE, "a cell with callers");
     made(8, true, "opening a cell and each of three callers is two calls");
-    must(mc2_cells_close(&cell, callers, 3) == MC2_CELL_DONE, "closing");
+    must(mc2_cell_close(&cell, callers, 3) == MC2_DONE, "closing");
     made(7, true, "each caller is taken back and freed, and the cell closed");
     return 0;
 }

@@ -34,7 +34,7 @@ static bool take_piece(void *to, const char *bytes, size_t length) {
 
 // Returns the text that `write` writes. It stays until the second call from here. If a piece isn't taken, `write` fails and has
 // written a beginning of the text.
-static const char *text_by(int (*write)(const void *what, mc2_take take, void *to), const void *what) {
+static const char *text_by(int (*write)(const void *what, mc2_write_fn take, void *to), const void *what) {
     static struct text texts[2], part;
     static unsigned turn;
     struct text *text = &texts[turn++ % 2];

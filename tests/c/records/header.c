@@ -20,12 +20,12 @@ static struct mc2_object object_of(const char *name, uint32_t kind, uint32_t eve
     return object;
 }
 
-// What mc2_open answers for the object alone.
+// What mc2_recorder_open answers for the object alone.
 static int opened(const char *name, uint32_t kind, uint32_t events, uint32_t size, uint32_t channels) {
     struct mc2_recorder recorder;
     struct mc2_object object = object_of(name, kind, events, size, channels);
-    int result = mc2_open(&recorder, &object, 1, 1, 1);
-    mc2_close(&recorder);
+    int result = mc2_recorder_open(&recorder, &object, 1, 1, 1);
+    mc2_recorder_close(&recorder);
     return result;
 }
 
@@ -48,7 +48,7 @@ static void check_sizes(void) {
         GIVES(opened("q", right[at][0], right[at][1], right[at][2], right[at][3]), MC2_DONE);
     for (unsigned at = 0; at < sizeof wrong / sizeof *wrong; at++)
         GIVES(opened("q", wrong[at][0], wrong[at][1], wrong[at][2], wrong[at][3]), MC2_BAD_OBJECT);
-    CHECK(sizeof(struct mc2_event_line) == 164 && sizeof(struct mc2_entry_line) == 272);
+    CHECK(sizeof(struct mc2_priv_event) == 164 && sizeof(struct mc2_priv_entry) == 272);
 }
 
 static void check_counts(void) {
@@ -62,29 +62,29 @@ static void check_counts(void) {
         objects[at] = object_of(names[at], MC2_QUEUE, 1, 1, 0);
     }
     for (unsigned at = 0; at < sizeof wrong / sizeof *wrong; at++)
-        GIVES(mc2_open(&recorder, objects, wrong[at][0], wrong[at][1], wrong[at][2]), MC2_BAD_COUNT);
-    GIVES(mc2_open(&recorder, NULL, 1, 1, 1), MC2_BAD_POINTER);
-    GIVES(mc2_open(NULL, objects, 1, 1, 1), MC2_BAD_POINTER);
-    GIVES(mc2_open(&recorder, objects, 16, 8, 10000), MC2_DONE);
-    mc2_close(&recorder);
+        GIVES(mc2_recorder_open(&recorder, objects, wrong[at][0], wrong[at][1], wrong[at][2]), MC2_BAD_COUNT);
+    GIVES(mc2_recorder_open(&recorder, NULL, 1, 1, 1), MC2_BAD_POINTER);
+    GIVES(mc2_recorder_open(NULL, objects, 1, 1, 1), MC2_BAD_POINTER);
+    GIVES(mc2_recorder_open(&recorder, objects, 16, 8, 10000), MC2_DONE);
+    mc2_recorder_close(&recorder);
     objects[16].name = "a";
-    GIVES(mc2_open(&recorder, &objects[15], 2, 1, 1), MC2_DONE);
-    mc2_close(&recorder);
+    GIVES(mc2_recorder_open(&recorder, &objects[15], 2, 1, 1), MC2_DONE);
+    mc2_recorder_close(&recorder);
     objects[15].name = "a";
-    GIVES(mc2_open(&recorder, &objects[15], 2, 1, 1), MC2_BAD_OBJECT);
+    GIVES(mc2_recorder_open(&recorder, &objects[15], 2, 1, 1), MC2_BAD_OBJECT);
     objects[0].lock = MC2_LOCKS;
-    GIVES(mc2_open(&recorder, objects, 1, 1, 1), MC2_BAD_OBJECT);
-    mc2_close(NULL);
+    GIVES(mc2_recorder_open(&recorder, objects, 1, 1, 1), MC2_BAD_OBJECT);
+    mc2_recorder_close(NULL);
 }
 
 // A recorder that was never opened, or not with success, or that is closed, refuses all.
 static void check_unopened(struct mc2_recorder *recorder) {
-    struct mc2_call call = mc2_ask(MC2_LEN, 0, 0);
-    struct mc2_step step = mc2_answer(call, MC2_COUNT, 0);
-    GIVES(mc2_room(recorder, 0, 0), MC2_BAD_OBJECT);
-    GIVES(mc2_event(recorder, 0, 0, &step, 1), MC2_BAD_OBJECT);
-    GIVES(mc2_entry(recorder, 0, 0, 1, &call, 1, &step, 1), MC2_BAD_OBJECT);
-    GIVES(mc2_write(recorder, stdout), MC2_BAD_COUNT);
+    struct mc2_call call = mc2_call_of(MC2_LEN, 0, 0);
+    struct mc2_step step = mc2_step_of(call, MC2_COUNT, 0);
+    GIVES(mc2_recorder_room(recorder, 0, 0), MC2_BAD_OBJECT);
+    GIVES(mc2_recorder_event(recorder, 0, 0, &step, 1), MC2_BAD_OBJECT);
+    GIVES(mc2_recorder_entry(recorder, 0, 0, 1, &call, 1, &step, 1), MC2_BAD_OBJECT);
+    GIVES(mc2_recorder_write(recorder, stdout), MC2_BAD_COUNT);
 }
 
 static void check_memory(void) {
@@ -92,16 +92,16 @@ static void check_memory(void) {
     static struct mc2_recorder recorder;
     check_unopened(&recorder);
     is_memory_refused = true;
-    GIVES(mc2_open(&recorder, &object, 1, 1, 1), MC2_NO_MEMORY);
+    GIVES(mc2_recorder_open(&recorder, &object, 1, 1, 1), MC2_NO_MEMORY);
     check_unopened(&recorder);
     is_memory_refused = false;
-    GIVES(mc2_open(&recorder, &object, 1, 1, 1), MC2_DONE);
-    mc2_close(&recorder);
+    GIVES(mc2_recorder_open(&recorder, &object, 1, 1, 1), MC2_DONE);
+    mc2_recorder_close(&recorder);
     check_unopened(&recorder);
 }
 
-static int write_record(const void *recorder, mc2_take take, void *to) {
-    return mc2_write_to((const struct mc2_recorder *)recorder, take, to);
+static int write_record(const void *recorder, mc2_write_fn take, void *to) {
+    return mc2_recorder_write_to((const struct mc2_recorder *)recorder, take, to);
 }
 
 // Returns the text of the record, which has to be the same in a file. It stays until the second call from here.
@@ -110,7 +110,7 @@ static const char *text_of(const struct mc2_recorder *recorder) {
     const char *text = text_by(write_record, recorder);
     FILE *file = tmpfile();
     CHECK(file != NULL);
-    GIVES(mc2_write(recorder, file), MC2_DONE);
+    GIVES(mc2_recorder_write(recorder, file), MC2_DONE);
     rewind(file);
     size_t length = fread(in_file, 1, sizeof in_file, file);
     fclose(file);
@@ -123,32 +123,32 @@ static void check_own_memory(void) {
     static uint64_t memory[(272 + 164) / 8 + 2];
     struct mc2_object object = object_of("q", MC2_QUEUE, 1, 1, 0);
     struct mc2_recorder recorder;
-    size_t size = mc2_memory_of(&object, 1, 1, 1);
+    size_t size = mc2_recorder_size(&object, 1, 1, 1);
     CHECK(size == 272 + 164);
     memset(memory, 0xff, sizeof memory);
-    GIVES(mc2_open_in(&recorder, &object, 1, 1, 1, memory, size - 1), MC2_NO_MEMORY);
+    GIVES(mc2_recorder_open_in(&recorder, &object, 1, 1, 1, memory, size - 1), MC2_NO_MEMORY);
     check_unopened(&recorder);
-    GIVES(mc2_open_in(&recorder, &object, 1, 1, 1, NULL, size), MC2_NO_MEMORY);
-    GIVES(mc2_open_in(&recorder, NULL, 1, 1, 1, memory, size), MC2_BAD_POINTER);
-    GIVES(mc2_open_in(NULL, &object, 1, 1, 1, memory, size), MC2_BAD_POINTER);
-    GIVES(mc2_open_in(&recorder, &object, 1, 0, 1, memory, size), MC2_BAD_COUNT);
-    CHECK(mc2_memory_of(&object, 1, 0, 1) == 0 && mc2_memory_of(&object, 1, 1, 10001) == 0 && mc2_memory_of(NULL, 1, 1, 1) == 0);
-    GIVES(mc2_write_to(&recorder, NULL, NULL), MC2_BAD_POINTER);
-    GIVES(mc2_open_in(&recorder, &object, 1, 1, 1, memory, size), MC2_DONE);
+    GIVES(mc2_recorder_open_in(&recorder, &object, 1, 1, 1, NULL, size), MC2_NO_MEMORY);
+    GIVES(mc2_recorder_open_in(&recorder, NULL, 1, 1, 1, memory, size), MC2_BAD_POINTER);
+    GIVES(mc2_recorder_open_in(NULL, &object, 1, 1, 1, memory, size), MC2_BAD_POINTER);
+    GIVES(mc2_recorder_open_in(&recorder, &object, 1, 0, 1, memory, size), MC2_BAD_COUNT);
+    CHECK(mc2_recorder_size(&object, 1, 0, 1) == 0 && mc2_recorder_size(&object, 1, 1, 10001) == 0 && mc2_recorder_size(NULL, 1, 1, 1) == 0);
+    GIVES(mc2_recorder_write_to(&recorder, NULL, NULL), MC2_BAD_POINTER);
+    GIVES(mc2_recorder_open_in(&recorder, &object, 1, 1, 1, memory, size), MC2_DONE);
     CHECK(strcmp(text_of(&recorder), "record 2\ncpus 1\nobjects 1\nobject q mcs 1 queue 1\nlog q 0\ncpu 0 0\nend\n") == 0);
     for (size_t at = size; at < sizeof memory; at++)
         CHECK(((unsigned char *)memory)[at] == 0xff);
     object.size = 0;
-    CHECK(mc2_memory_of(&object, 1, 1, 1) == 0);
-    GIVES(mc2_open_in(&recorder, &object, 1, 1, 1, memory, size), MC2_BAD_OBJECT);
+    CHECK(mc2_recorder_size(&object, 1, 1, 1) == 0);
+    GIVES(mc2_recorder_open_in(&recorder, &object, 1, 1, 1, memory, size), MC2_BAD_OBJECT);
 }
 
 static int opened_with(uint32_t kind, const uint32_t *quotas) {
     struct mc2_recorder recorder;
     struct mc2_object object = object_of("p", kind, 1, 7, kind == MC2_SCHED ? 1 : 0);
     object.quotas = quotas;
-    int result = mc2_open(&recorder, &object, 1, 1, 1);
-    mc2_close(&recorder);
+    int result = mc2_recorder_open(&recorder, &object, 1, 1, 1);
+    mc2_recorder_close(&recorder);
     return result;
 }
 
@@ -166,92 +166,92 @@ static void check_quotas(void) {
     GIVES(opened_with(MC2_CONSOLE, quotas), MC2_BAD_OBJECT);
     GIVES(opened_with(MC2_SCHED, quotas), MC2_BAD_OBJECT);
     GIVES(opened_with(MC2_SCHED, NULL), MC2_DONE);
-    GIVES(mc2_open(&recorder, &pool, 1, 1, 1), MC2_DONE);
+    GIVES(mc2_recorder_open(&recorder, &pool, 1, 1, 1), MC2_DONE);
     CHECK(strcmp(text_of(&recorder), "record 2\ncpus 1\nobjects 1\nobject p mcs 1 pool 7 7 7 7 7 7 7 7 7 7 7 7 7 7 7 7 7\n"
                                      "log p 0\ncpu 0 0\nend\n") == 0);
-    mc2_close(&recorder);
+    mc2_recorder_close(&recorder);
 }
 
 // A kernel that goes on notes nothing more of an object once it was told that there is no room.
 static void check_going_on(void) {
     static struct mc2_recorder recorder;
     struct mc2_object objects[2] = {object_of("q", MC2_QUEUE, 1, 1, 0), object_of("r", MC2_QUEUE, 9, 1, 0)};
-    struct mc2_call call = mc2_ask(MC2_LEN, 0, 0);
-    struct mc2_step step = mc2_answer(call, MC2_COUNT, 0);
-    CHECK(!mc2_notes(&recorder, 0, 0) && !mc2_notes(NULL, 0, 0));
-    GIVES(mc2_open(&recorder, objects, 2, 2, 2), MC2_DONE);
-    CHECK(!mc2_notes(&recorder, 2, 0) && !mc2_notes(&recorder, 0, 2));
+    struct mc2_call call = mc2_call_of(MC2_LEN, 0, 0);
+    struct mc2_step step = mc2_step_of(call, MC2_COUNT, 0);
+    CHECK(!mc2_recorder_can_note(&recorder, 0, 0) && !mc2_recorder_can_note(NULL, 0, 0));
+    GIVES(mc2_recorder_open(&recorder, objects, 2, 2, 2), MC2_DONE);
+    CHECK(!mc2_recorder_can_note(&recorder, 2, 0) && !mc2_recorder_can_note(&recorder, 0, 2));
     for (unsigned object = 0; object < 2; object++) {
-        CHECK(mc2_notes(&recorder, object, 0));
-        GIVES(mc2_event(&recorder, object, 0, &step, 1), MC2_DONE);
-        GIVES(mc2_entry(&recorder, object, 0, 0, &call, 1, &step, 1), MC2_DONE);
+        CHECK(mc2_recorder_can_note(&recorder, object, 0));
+        GIVES(mc2_recorder_event(&recorder, object, 0, &step, 1), MC2_DONE);
+        GIVES(mc2_recorder_entry(&recorder, object, 0, 0, &call, 1, &step, 1), MC2_DONE);
     }
     // The first log is full, and so is this CPU's transcript: so the second log ends for the other CPU too.
-    CHECK(!mc2_notes(&recorder, 0, 1));
-    CHECK(mc2_notes(&recorder, 1, 1));
-    CHECK(!mc2_notes(&recorder, 1, 0));
-    CHECK(!mc2_notes(&recorder, 1, 1));
+    CHECK(!mc2_recorder_can_note(&recorder, 0, 1));
+    CHECK(mc2_recorder_can_note(&recorder, 1, 1));
+    CHECK(!mc2_recorder_can_note(&recorder, 1, 0));
+    CHECK(!mc2_recorder_can_note(&recorder, 1, 1));
     CHECK(strcmp(text_of(&recorder), "record 2\ncpus 2\nobjects 2\nobject q mcs 1 queue 1\nobject r mcs 9 queue 1\n"
                                      "log q 1\n0 len = count 0\nlog r 1\n0 len = count 0\ncpu 0 2\nq 0 len | len = count 0\n"
                                      "r 0 len | len = count 0\ncpu 1 0\nend\n") == 0);
-    mc2_close(&recorder);
+    mc2_recorder_close(&recorder);
 }
 
 // Real pages have the least free names, as long as they are given out.
 static void check_page_names(void) {
     static struct mc2_page_names names = {3, {0}, {0}};
-    CHECK(mc2_page_name(&names, 0) == 3 && mc2_take_page_back(&names, 77, false) == 0);
-    CHECK(mc2_give_page(&names, UINT64_MAX) == 0 && mc2_give_page(&names, 0) == 1 && mc2_give_page(&names, 5) == 2);
-    CHECK(mc2_page_name(&names, 0) == 1 && mc2_give_page(&names, 6) == 3 && mc2_give_page(&names, 5) == 2);
-    CHECK(mc2_take_page_back(&names, 6, false) == 3);
-    CHECK(mc2_take_page_back(&names, 0, false) == 1 && mc2_page_name(&names, 0) == 1);
-    CHECK(mc2_take_page_back(&names, 0, true) == 1 && mc2_page_name(&names, 0) == 3);
-    CHECK(mc2_take_page_back(&names, 0, false) == 1 && mc2_give_page(&names, 6) == 1);
-    CHECK(mc2_take_page_back(&names, UINT64_MAX, true) == 0 && mc2_give_page(&names, 9) == 0);
+    CHECK(mc2_priv_page_name(&names, 0) == 3 && mc2_page_returned(&names, 77, false) == 0);
+    CHECK(mc2_page_given(&names, UINT64_MAX) == 0 && mc2_page_given(&names, 0) == 1 && mc2_page_given(&names, 5) == 2);
+    CHECK(mc2_priv_page_name(&names, 0) == 1 && mc2_page_given(&names, 6) == 3 && mc2_page_given(&names, 5) == 2);
+    CHECK(mc2_page_returned(&names, 6, false) == 3);
+    CHECK(mc2_page_returned(&names, 0, false) == 1 && mc2_priv_page_name(&names, 0) == 1);
+    CHECK(mc2_page_returned(&names, 0, true) == 1 && mc2_priv_page_name(&names, 0) == 3);
+    CHECK(mc2_page_returned(&names, 0, false) == 1 && mc2_page_given(&names, 6) == 1);
+    CHECK(mc2_page_returned(&names, UINT64_MAX, true) == 0 && mc2_page_given(&names, 9) == 0);
 }
 
 static void check_events(struct mc2_recorder *recorder) {
     struct mc2_step steps[9];
     const struct mc2_step wrong[] = {
-        mc2_answer(mc2_ask(MC2_CALL_WORDS, 0, 0), MC2_OK, 0), mc2_answer(mc2_ask(MC2_LEN, 0, 0), MC2_REPLY_WORDS, 0),
-        mc2_answer(mc2_ask(MC2_PUT, 256, 0), MC2_OK, 0), mc2_answer(mc2_ask(MC2_GET, 0, 0), MC2_BYTE, 256),
-        mc2_answer(mc2_ask(MC2_PUT, 0, 0), MC2_DROPPED, 256)};
+        mc2_step_of(mc2_call_of(MC2_CALL_WORDS, 0, 0), MC2_OK, 0), mc2_step_of(mc2_call_of(MC2_LEN, 0, 0), MC2_REPLY_WORDS, 0),
+        mc2_step_of(mc2_call_of(MC2_PUT, 256, 0), MC2_OK, 0), mc2_step_of(mc2_call_of(MC2_GET, 0, 0), MC2_BYTE, 256),
+        mc2_step_of(mc2_call_of(MC2_PUT, 0, 0), MC2_DROPPED, 256)};
     for (unsigned at = 0; at < 9; at++)
-        steps[at] = mc2_answer(mc2_ask(MC2_LEN, 0, 0), MC2_COUNT, 0);
-    GIVES(mc2_room(NULL, 0, 0), MC2_BAD_POINTER);
-    GIVES(mc2_room(recorder, 2, 0), MC2_BAD_OBJECT);
-    GIVES(mc2_room(recorder, 0, 2), MC2_BAD_CPU);
-    GIVES(mc2_event(NULL, 0, 0, steps, 1), MC2_BAD_POINTER);
-    GIVES(mc2_event(recorder, 0, 0, NULL, 1), MC2_BAD_POINTER);
-    GIVES(mc2_event(recorder, 2, 0, steps, 1), MC2_BAD_OBJECT);
-    GIVES(mc2_event(recorder, UINT32_MAX, 0, steps, 1), MC2_BAD_OBJECT);
-    GIVES(mc2_event(recorder, 0, 2, steps, 1), MC2_BAD_CPU);
-    GIVES(mc2_event(recorder, 0, UINT32_MAX, steps, 1), MC2_BAD_CPU);
-    GIVES(mc2_event(recorder, 0, 0, steps, 0), MC2_BAD_COUNT);
-    GIVES(mc2_event(recorder, 0, 0, steps, 9), MC2_BAD_COUNT);
+        steps[at] = mc2_step_of(mc2_call_of(MC2_LEN, 0, 0), MC2_COUNT, 0);
+    GIVES(mc2_recorder_room(NULL, 0, 0), MC2_BAD_POINTER);
+    GIVES(mc2_recorder_room(recorder, 2, 0), MC2_BAD_OBJECT);
+    GIVES(mc2_recorder_room(recorder, 0, 2), MC2_BAD_CPU);
+    GIVES(mc2_recorder_event(NULL, 0, 0, steps, 1), MC2_BAD_POINTER);
+    GIVES(mc2_recorder_event(recorder, 0, 0, NULL, 1), MC2_BAD_POINTER);
+    GIVES(mc2_recorder_event(recorder, 2, 0, steps, 1), MC2_BAD_OBJECT);
+    GIVES(mc2_recorder_event(recorder, UINT32_MAX, 0, steps, 1), MC2_BAD_OBJECT);
+    GIVES(mc2_recorder_event(recorder, 0, 2, steps, 1), MC2_BAD_CPU);
+    GIVES(mc2_recorder_event(recorder, 0, UINT32_MAX, steps, 1), MC2_BAD_CPU);
+    GIVES(mc2_recorder_event(recorder, 0, 0, steps, 0), MC2_BAD_COUNT);
+    GIVES(mc2_recorder_event(recorder, 0, 0, steps, 9), MC2_BAD_COUNT);
     for (unsigned at = 0; at < sizeof wrong / sizeof *wrong; at++)
-        GIVES(mc2_event(recorder, 0, 0, &wrong[at], 1), MC2_BAD_STEP);
+        GIVES(mc2_recorder_event(recorder, 0, 0, &wrong[at], 1), MC2_BAD_STEP);
     steps[7].reply = MC2_REPLY_WORDS;
-    GIVES(mc2_event(recorder, 0, 0, steps, 8), MC2_BAD_STEP);
+    GIVES(mc2_recorder_event(recorder, 0, 0, steps, 8), MC2_BAD_STEP);
 }
 
 static void check_entries(struct mc2_recorder *recorder) {
-    struct mc2_call calls[9], none = mc2_ask(MC2_CALL_WORDS, 0, 0);
-    struct mc2_step steps[9], no_reply = mc2_answer(mc2_ask(MC2_LEN, 0, 0), UINT32_MAX, 0);
+    struct mc2_call calls[9], none = mc2_call_of(MC2_CALL_WORDS, 0, 0);
+    struct mc2_step steps[9], no_reply = mc2_step_of(mc2_call_of(MC2_LEN, 0, 0), UINT32_MAX, 0);
     for (unsigned at = 0; at < 9; at++) {
-        calls[at] = mc2_ask(MC2_LEN, 0, 0);
-        steps[at] = mc2_answer(calls[at], MC2_COUNT, 0);
+        calls[at] = mc2_call_of(MC2_LEN, 0, 0);
+        steps[at] = mc2_step_of(calls[at], MC2_COUNT, 0);
     }
-    GIVES(mc2_entry(NULL, 0, 0, 1, calls, 1, steps, 1), MC2_BAD_POINTER);
-    GIVES(mc2_entry(recorder, 0, 0, 1, NULL, 1, steps, 1), MC2_BAD_POINTER);
-    GIVES(mc2_entry(recorder, 0, 0, 1, calls, 1, NULL, 1), MC2_BAD_POINTER);
-    GIVES(mc2_entry(recorder, 2, 0, 1, calls, 1, steps, 1), MC2_BAD_OBJECT);
-    GIVES(mc2_entry(recorder, 0, 2, 1, calls, 1, steps, 1), MC2_BAD_CPU);
-    GIVES(mc2_entry(recorder, 0, 0, 1, calls, 0, steps, 1), MC2_BAD_COUNT);
-    GIVES(mc2_entry(recorder, 0, 0, 1, calls, 9, steps, 1), MC2_BAD_COUNT);
-    GIVES(mc2_entry(recorder, 0, 0, 1, calls, 8, steps, 9), MC2_BAD_COUNT);
-    GIVES(mc2_entry(recorder, 0, 0, 1, &none, 1, steps, 1), MC2_BAD_STEP);
-    GIVES(mc2_entry(recorder, 0, 0, 1, calls, 1, &no_reply, 1), MC2_BAD_STEP);
+    GIVES(mc2_recorder_entry(NULL, 0, 0, 1, calls, 1, steps, 1), MC2_BAD_POINTER);
+    GIVES(mc2_recorder_entry(recorder, 0, 0, 1, NULL, 1, steps, 1), MC2_BAD_POINTER);
+    GIVES(mc2_recorder_entry(recorder, 0, 0, 1, calls, 1, NULL, 1), MC2_BAD_POINTER);
+    GIVES(mc2_recorder_entry(recorder, 2, 0, 1, calls, 1, steps, 1), MC2_BAD_OBJECT);
+    GIVES(mc2_recorder_entry(recorder, 0, 2, 1, calls, 1, steps, 1), MC2_BAD_CPU);
+    GIVES(mc2_recorder_entry(recorder, 0, 0, 1, calls, 0, steps, 1), MC2_BAD_COUNT);
+    GIVES(mc2_recorder_entry(recorder, 0, 0, 1, calls, 9, steps, 1), MC2_BAD_COUNT);
+    GIVES(mc2_recorder_entry(recorder, 0, 0, 1, calls, 8, steps, 9), MC2_BAD_COUNT);
+    GIVES(mc2_recorder_entry(recorder, 0, 0, 1, &none, 1, steps, 1), MC2_BAD_STEP);
+    GIVES(mc2_recorder_entry(recorder, 0, 0, 1, calls, 1, &no_reply, 1), MC2_BAD_STEP);
 }
 
 static const char full_text[] = "record 2\ncpus 2\nobjects 2\n"
@@ -263,25 +263,25 @@ static const char full_text[] = "record 2\ncpus 2\nobjects 2\n"
 
 // Fills a log and a transcript of a small recorder, and tries to go on.
 static void check_full(struct mc2_recorder *recorder) {
-    struct mc2_call call = mc2_ask(MC2_LEN, 0, 0);
-    struct mc2_step step = mc2_answer(call, MC2_COUNT, 0);
-    GIVES(mc2_room(recorder, 0, 0), MC2_DONE);
-    GIVES(mc2_event(recorder, 0, 0, &step, 1), MC2_DONE);
-    GIVES(mc2_room(recorder, 0, 0), MC2_LOG_FULL);
-    GIVES(mc2_event(recorder, 0, 0, &step, 1), MC2_LOG_FULL);
-    GIVES(mc2_entry(recorder, 0, 0, UINT64_MAX, &call, 1, NULL, 0), MC2_DONE);
+    struct mc2_call call = mc2_call_of(MC2_LEN, 0, 0);
+    struct mc2_step step = mc2_step_of(call, MC2_COUNT, 0);
+    GIVES(mc2_recorder_room(recorder, 0, 0), MC2_DONE);
+    GIVES(mc2_recorder_event(recorder, 0, 0, &step, 1), MC2_DONE);
+    GIVES(mc2_recorder_room(recorder, 0, 0), MC2_LOG_FULL);
+    GIVES(mc2_recorder_event(recorder, 0, 0, &step, 1), MC2_LOG_FULL);
+    GIVES(mc2_recorder_entry(recorder, 0, 0, UINT64_MAX, &call, 1, NULL, 0), MC2_DONE);
     // One event waits for its entry, for which alone there is room.
-    GIVES(mc2_room(recorder, 1, 0), MC2_TRANSCRIPT_FULL);
-    GIVES(mc2_event(recorder, 1, 0, &step, 1), MC2_TRANSCRIPT_FULL);
-    GIVES(mc2_entry(recorder, 0, 0, 1, &call, 1, NULL, 0), MC2_TRANSCRIPT_FULL);
-    GIVES(mc2_entry(recorder, 0, 0, 0, &call, 1, &step, 1), MC2_DONE);
-    GIVES(mc2_entry(recorder, 0, 0, 0, &call, 1, &step, 1), MC2_TRANSCRIPT_FULL);
+    GIVES(mc2_recorder_room(recorder, 1, 0), MC2_TRANSCRIPT_FULL);
+    GIVES(mc2_recorder_event(recorder, 1, 0, &step, 1), MC2_TRANSCRIPT_FULL);
+    GIVES(mc2_recorder_entry(recorder, 0, 0, 1, &call, 1, NULL, 0), MC2_TRANSCRIPT_FULL);
+    GIVES(mc2_recorder_entry(recorder, 0, 0, 0, &call, 1, &step, 1), MC2_DONE);
+    GIVES(mc2_recorder_entry(recorder, 0, 0, 0, &call, 1, &step, 1), MC2_TRANSCRIPT_FULL);
     // The other CPU has its own room, and the last of its entries is of no event.
-    GIVES(mc2_event(recorder, 1, 1, &step, 1), MC2_DONE);
-    GIVES(mc2_entry(recorder, 1, 1, 7, &call, 1, &step, 1), MC2_DONE);
-    GIVES(mc2_room(recorder, 1, 1), MC2_DONE);
-    GIVES(mc2_entry(recorder, 1, 1, 8, &call, 1, &step, 1), MC2_DONE);
-    GIVES(mc2_room(recorder, 1, 1), MC2_TRANSCRIPT_FULL);
+    GIVES(mc2_recorder_event(recorder, 1, 1, &step, 1), MC2_DONE);
+    GIVES(mc2_recorder_entry(recorder, 1, 1, 7, &call, 1, &step, 1), MC2_DONE);
+    GIVES(mc2_recorder_room(recorder, 1, 1), MC2_DONE);
+    GIVES(mc2_recorder_entry(recorder, 1, 1, 8, &call, 1, &step, 1), MC2_DONE);
+    GIVES(mc2_recorder_room(recorder, 1, 1), MC2_TRANSCRIPT_FULL);
     CHECK(strcmp(text_of(recorder), full_text) == 0);
 }
 
@@ -289,85 +289,85 @@ static void check_full(struct mc2_recorder *recorder) {
 static void check_writing(struct mc2_recorder *recorder) {
     FILE *full = fopen("/dev/full", "w"), *nowhere = fopen("/dev/null", "w");
     CHECK(full != NULL && nowhere != NULL);
-    GIVES(mc2_write(recorder, NULL), MC2_BAD_POINTER);
-    GIVES(mc2_write(NULL, stdout), MC2_BAD_POINTER);
-    GIVES(mc2_write(recorder, full), MC2_WRITE_FAILED);
+    GIVES(mc2_recorder_write(recorder, NULL), MC2_BAD_POINTER);
+    GIVES(mc2_recorder_write(NULL, stdout), MC2_BAD_POINTER);
+    GIVES(mc2_recorder_write(recorder, full), MC2_WRITE_FAILED);
     recorder->logs[0].events[0].cpu = 2;
-    GIVES(mc2_write(recorder, nowhere), MC2_MIXED);
+    GIVES(mc2_recorder_write(recorder, nowhere), MC2_MIXED);
     recorder->logs[0].events[0].cpu = 0;
     recorder->logs[0].events[0].count = 9;
-    GIVES(mc2_write(recorder, nowhere), MC2_MIXED);
+    GIVES(mc2_recorder_write(recorder, nowhere), MC2_MIXED);
     recorder->logs[0].events[0].count = 1;
     recorder->logs[0].events[0].steps[0].reply = MC2_REPLY_WORDS;
-    GIVES(mc2_write(recorder, nowhere), MC2_MIXED);
+    GIVES(mc2_recorder_write(recorder, nowhere), MC2_MIXED);
     fclose(full);
     fclose(nowhere);
-    CHECK(strcmp(mc2_says(MC2_WRITE_FAILED), "write failed") == 0 && strcmp(mc2_says(-1), mc2_says(99)) == 0);
-    CHECK(strstr(mc2_says(MC2_BAD_COUNT), "1 to 16 objects, 1 to 64 CPUs, 1 to 10,000 entries") != NULL);
+    CHECK(strcmp(mc2_result_text(MC2_WRITE_FAILED), "write failed") == 0 && strcmp(mc2_result_text(-1), mc2_result_text(99)) == 0);
+    CHECK(strstr(mc2_result_text(MC2_BAD_COUNT), "1 to 16 objects, 1 to 64 CPUs, 1 to 10,000 entries") != NULL);
 }
 
 // A record of one queue with room for so many events, and of two CPUs.
 static void open_small(struct mc2_recorder *recorder, uint32_t events) {
     struct mc2_object object = object_of("q", MC2_QUEUE, events, 1, 0);
-    GIVES(mc2_open(recorder, &object, 1, 2, 4), MC2_DONE);
+    GIVES(mc2_recorder_open(recorder, &object, 1, 2, 4), MC2_DONE);
 }
 
 // Two CPUs are both told of the last room, as a lock lets them in at one time, and both work.
 static void check_mixed(void) {
     static struct mc2_recorder recorder;
-    struct mc2_call call = mc2_ask(MC2_LEN, 0, 0);
-    struct mc2_step step = mc2_answer(call, MC2_COUNT, 0), no_reply = mc2_answer(call, MC2_REPLY_WORDS, 0);
+    struct mc2_call call = mc2_call_of(MC2_LEN, 0, 0);
+    struct mc2_step step = mc2_step_of(call, MC2_COUNT, 0), no_reply = mc2_step_of(call, MC2_REPLY_WORDS, 0);
     static struct text pieces = {{0}, 0, SIZE_MAX};
     open_small(&recorder, 1);
-    GIVES(mc2_room(&recorder, 0, 0), MC2_DONE);
-    GIVES(mc2_room(&recorder, 0, 1), MC2_DONE);
-    GIVES(mc2_event(&recorder, 0, 0, &no_reply, 1), MC2_BAD_STEP);
-    GIVES(mc2_event(&recorder, 0, 0, &step, 1), MC2_DONE);
-    GIVES(mc2_write_to(&recorder, take_piece, &pieces), MC2_DONE);
-    GIVES(mc2_event(&recorder, 0, 1, &step, 1), MC2_MIXED);
-    GIVES(mc2_event(&recorder, 0, 1, &step, 1), MC2_MIXED);
-    GIVES(mc2_entry(&recorder, 0, 0, 0, &call, 1, &step, 1), MC2_DONE);
-    GIVES(mc2_entry(&recorder, 0, 1, 0, &call, 1, NULL, 0), MC2_DONE);
+    GIVES(mc2_recorder_room(&recorder, 0, 0), MC2_DONE);
+    GIVES(mc2_recorder_room(&recorder, 0, 1), MC2_DONE);
+    GIVES(mc2_recorder_event(&recorder, 0, 0, &no_reply, 1), MC2_BAD_STEP);
+    GIVES(mc2_recorder_event(&recorder, 0, 0, &step, 1), MC2_DONE);
+    GIVES(mc2_recorder_write_to(&recorder, take_piece, &pieces), MC2_DONE);
+    GIVES(mc2_recorder_event(&recorder, 0, 1, &step, 1), MC2_MIXED);
+    GIVES(mc2_recorder_event(&recorder, 0, 1, &step, 1), MC2_MIXED);
+    GIVES(mc2_recorder_entry(&recorder, 0, 0, 0, &call, 1, &step, 1), MC2_DONE);
+    GIVES(mc2_recorder_entry(&recorder, 0, 1, 0, &call, 1, NULL, 0), MC2_DONE);
     // As the record would be sound, it isn't written.
     pieces.length = 0;
-    GIVES(mc2_write_to(&recorder, take_piece, &pieces), MC2_MIXED);
+    GIVES(mc2_recorder_write_to(&recorder, take_piece, &pieces), MC2_MIXED);
     CHECK(pieces.length == 0);
-    mc2_close(&recorder);
+    mc2_recorder_close(&recorder);
 }
 
 // A log that is full is no fault of a lock, where the CPU wasn't told of room, or has noted since, or was told again.
 static void check_unmixed(void) {
     static struct mc2_recorder recorder;
-    struct mc2_call call = mc2_ask(MC2_LEN, 0, 0);
-    struct mc2_step step = mc2_answer(call, MC2_COUNT, 0);
+    struct mc2_call call = mc2_call_of(MC2_LEN, 0, 0);
+    struct mc2_step step = mc2_step_of(call, MC2_COUNT, 0);
     static struct text pieces = {{0}, 0, SIZE_MAX};
     open_small(&recorder, 2);
-    GIVES(mc2_room(&recorder, 0, 0), MC2_DONE);
-    GIVES(mc2_room(&recorder, 0, 1), MC2_DONE);
-    GIVES(mc2_event(&recorder, 0, 0, &step, 1), MC2_DONE);
-    GIVES(mc2_event(&recorder, 0, 1, &step, 1), MC2_DONE);
-    GIVES(mc2_event(&recorder, 0, 1, &step, 1), MC2_LOG_FULL);
-    GIVES(mc2_room(&recorder, 0, 0), MC2_LOG_FULL);
-    GIVES(mc2_event(&recorder, 0, 0, &step, 1), MC2_LOG_FULL);
-    GIVES(mc2_entry(&recorder, 0, 0, 0, &call, 1, &step, 1), MC2_DONE);
-    GIVES(mc2_entry(&recorder, 0, 1, 0, &call, 1, &step, 1), MC2_DONE);
-    GIVES(mc2_write_to(&recorder, take_piece, &pieces), MC2_DONE);
-    mc2_close(&recorder);
+    GIVES(mc2_recorder_room(&recorder, 0, 0), MC2_DONE);
+    GIVES(mc2_recorder_room(&recorder, 0, 1), MC2_DONE);
+    GIVES(mc2_recorder_event(&recorder, 0, 0, &step, 1), MC2_DONE);
+    GIVES(mc2_recorder_event(&recorder, 0, 1, &step, 1), MC2_DONE);
+    GIVES(mc2_recorder_event(&recorder, 0, 1, &step, 1), MC2_LOG_FULL);
+    GIVES(mc2_recorder_room(&recorder, 0, 0), MC2_LOG_FULL);
+    GIVES(mc2_recorder_event(&recorder, 0, 0, &step, 1), MC2_LOG_FULL);
+    GIVES(mc2_recorder_entry(&recorder, 0, 0, 0, &call, 1, &step, 1), MC2_DONE);
+    GIVES(mc2_recorder_entry(&recorder, 0, 1, 0, &call, 1, &step, 1), MC2_DONE);
+    GIVES(mc2_recorder_write_to(&recorder, take_piece, &pieces), MC2_DONE);
+    mc2_recorder_close(&recorder);
     open_small(&recorder, 1);
     // It was told of room, and didn't work; and later, that there is none.
-    GIVES(mc2_room(&recorder, 0, 1), MC2_DONE);
-    GIVES(mc2_event(&recorder, 0, 0, &step, 1), MC2_DONE);
-    GIVES(mc2_room(&recorder, 0, 1), MC2_LOG_FULL);
-    GIVES(mc2_event(&recorder, 0, 1, &step, 1), MC2_LOG_FULL);
-    GIVES(mc2_write_to(&recorder, take_piece, &pieces), MC2_DONE);
-    mc2_close(&recorder);
+    GIVES(mc2_recorder_room(&recorder, 0, 1), MC2_DONE);
+    GIVES(mc2_recorder_event(&recorder, 0, 0, &step, 1), MC2_DONE);
+    GIVES(mc2_recorder_room(&recorder, 0, 1), MC2_LOG_FULL);
+    GIVES(mc2_recorder_event(&recorder, 0, 1, &step, 1), MC2_LOG_FULL);
+    GIVES(mc2_recorder_write_to(&recorder, take_piece, &pieces), MC2_DONE);
+    mc2_recorder_close(&recorder);
 }
 
 static void check_notes(void) {
     struct mc2_recorder recorder;
     char name[] = "abcdefghijklmno9";
     struct mc2_object objects[2] = {object_of(name, MC2_QUEUE, 1, 1024, 0), object_of("s", MC2_SCHED, 2, 3, 4)};
-    GIVES(mc2_open(&recorder, objects, 2, 2, 2), MC2_DONE);
+    GIVES(mc2_recorder_open(&recorder, objects, 2, 2, 2), MC2_DONE);
     // The recorder has names of its own.
     name[0] = 'X';
     const char *before = text_of(&recorder);
@@ -376,7 +376,7 @@ static void check_notes(void) {
     CHECK(strcmp(before, text_of(&recorder)) == 0);
     check_full(&recorder);
     check_writing(&recorder);
-    mc2_close(&recorder);
+    mc2_recorder_close(&recorder);
 }
 
 // The steps of the record that is printed: the object, a call with its numbers, and its reply with its number.
@@ -405,23 +405,23 @@ static void note(struct mc2_recorder *recorder, uint32_t object, const struct mc
                  const struct mc2_step *steps, uint32_t done) {
     uint64_t looks = object == Q || object == C ? 1 : 0;
     if (done > 0)
-        GIVES(mc2_event(recorder, object, 0, steps, done), MC2_DONE);
-    GIVES(mc2_entry(recorder, object, 0, looks, calls, asked, steps, done), MC2_DONE);
+        GIVES(mc2_recorder_event(recorder, object, 0, steps, done), MC2_DONE);
+    GIVES(mc2_recorder_entry(recorder, object, 0, looks, calls, asked, steps, done), MC2_DONE);
 }
 
 static void note_groups(struct mc2_recorder *recorder) {
-    struct mc2_call calls[8], left = mc2_ask(MC2_LEFT, 0, 0);
+    struct mc2_call calls[8], left = mc2_call_of(MC2_LEFT, 0, 0);
     struct mc2_step steps[8];
     for (unsigned at = 0; at < 8; at++) {
-        calls[at] = mc2_ask(MC2_LEN, 0, 0);
-        steps[at] = mc2_answer(calls[at], MC2_COUNT, 0);
+        calls[at] = mc2_call_of(MC2_LEN, 0, 0);
+        steps[at] = mc2_step_of(calls[at], MC2_COUNT, 0);
     }
     note(recorder, Q, calls, 8, steps, 8);
-    calls[0] = calls[1] = mc2_ask(MC2_ENQ, 1, 0);
-    steps[0] = mc2_answer(calls[0], MC2_OK, 0);
-    steps[1] = mc2_answer(calls[1], MC2_ALREADY, 0);
+    calls[0] = calls[1] = mc2_call_of(MC2_ENQ, 1, 0);
+    steps[0] = mc2_step_of(calls[0], MC2_OK, 0);
+    steps[1] = mc2_step_of(calls[1], MC2_ALREADY, 0);
     note(recorder, Q, calls, 3, steps, 2);
-    GIVES(mc2_room(recorder, P, 0), MC2_LOG_FULL);
+    GIVES(mc2_recorder_room(recorder, P, 0), MC2_LOG_FULL);
     note(recorder, P, &left, 1, NULL, 0);
 }
 
@@ -432,18 +432,18 @@ static void print_record(void) {
                                           {"pages", MC2_POOL, MC2_MCS, OF_THE_POOL, 2, 0, quotas},
                                           {"c", MC2_CONSOLE, MC2_TICKET, 65536, 1, 0, NULL},
                                           {"s9", MC2_SCHED, MC2_MCS, 10, 2, 1, NULL}};
-    GIVES(mc2_open(&recorder, objects, 4, 2, TOLD + 3), MC2_DONE);
+    GIVES(mc2_recorder_open(&recorder, objects, 4, 2, TOLD + 3), MC2_DONE);
     // The recorder has quotas of its own.
     quotas[15] = 9;
     for (unsigned at = 0; at < TOLD; at++) {
-        struct mc2_call call = mc2_ask(told[at].word, told[at].first, told[at].second);
-        struct mc2_step step = mc2_answer(call, told[at].reply, told[at].number);
+        struct mc2_call call = mc2_call_of(told[at].word, told[at].first, told[at].second);
+        struct mc2_step step = mc2_step_of(call, told[at].reply, told[at].number);
         CHECK(mc2_refuses(step.reply) == (step.reply >= MC2_BADTHREAD));
         note(&recorder, told[at].object, &call, 1, &step, 1);
     }
     note_groups(&recorder);
-    GIVES(mc2_write(&recorder, stdout), MC2_DONE);
-    mc2_close(&recorder);
+    GIVES(mc2_recorder_write(&recorder, stdout), MC2_DONE);
+    mc2_recorder_close(&recorder);
 }
 
 int main(void) {

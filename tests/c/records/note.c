@@ -11,9 +11,9 @@
 
 #define STEP struct mc2_step
 #define OPEN_NOTES mc2_open_notes
-#define OPEN_TURNS mc2_open_turns
+#define OPEN_TURNS mc2_open_sequence
 #define HAS_ROOM mc2_has_note_room
-#define TAKE_TURN mc2_take_turn
+#define TAKE_TURN mc2_next_seq
 #define NOTE mc2_note
 #define NOTE_PIECES MC2_NOTE_PIECES
 #define MOST_OBJECTS MC2_MOST_OBJECTS
@@ -21,15 +21,15 @@
 #include "notes.h"
 
 static struct mc2_step step_of(uint32_t number) {
-    return number == 9 ? mc2_answer(mc2_ask(MC2_DEQ, 0, 0), MC2_EMPTY, 0) : mc2_answer(mc2_ask(MC2_LEN, 0, 0), MC2_COUNT, 0);
+    return number == 9 ? mc2_step_of(mc2_call_of(MC2_DEQ, 0, 0), MC2_EMPTY, 0) : mc2_step_of(mc2_call_of(MC2_LEN, 0, 0), MC2_COUNT, 0);
 }
 
 static struct mc2_step longest_step(void) { return step_of(0); }
 
-static int write_all(const void *unused, mc2_take take, void *to) {
+static int write_all(const void *unused, mc2_write_fn take, void *to) {
     static const struct mc2_object objects[] = {{"q", MC2_QUEUE, MC2_TICKET, EVENTS, 4, 0, NULL},
                                                 {"r", MC2_QUEUE, MC2_MCS, EVENTS, 4, 0, NULL}};
-    static struct mc2_turns *const each[] = {&turns[0], &turns[1]};
+    static struct mc2_sequence *const each[] = {&turns[0], &turns[1]};
     struct mc2_noted noted = {objects, each, OBJECTS, notes, CPUS};
     (void)unused;
     return mc2_write_notes(&noted, take, to);
@@ -50,7 +50,7 @@ static void check_notes(void) {
     CHECK(strcmp(text_now(), "record 2\ncpus 3\nobjects 2\nobject q ticket 40 queue 4\nobject r mcs 40 queue 4\nlog q 0\nlog r 0\n"
                              "cpu 0 0\ncpu 1 0\ncpu 2 0\nend\n") == 0);
     GIVES(mc2_note(&notes[0], 0, MC2_MOST_EVENTS, 0, steps, 1, 1), MC2_BAD_COUNT);
-    steps[7] = mc2_answer(mc2_ask(MC2_PUT, 256, 0), MC2_OK, 0);
+    steps[7] = mc2_step_of(mc2_call_of(MC2_PUT, 256, 0), MC2_OK, 0);
     GIVES(mc2_note(&notes[0], 0, 0, 0, steps, 8, 1), MC2_BAD_STEP);
     check_bad_notes(spoil);
     CHECK(strstr(text_now(), "\nq 18446744073709551615 len ; len | len = count 0\n") != NULL);
@@ -58,40 +58,40 @@ static void check_notes(void) {
 
 static void check_writing(void) {
     struct mc2_object objects[] = {{"q", MC2_QUEUE, MC2_TICKET, 9, 4, 0, NULL}, {"q", MC2_QUEUE, MC2_TICKET, 9, 4, 0, NULL}};
-    struct mc2_turns *each[] = {&turns[0], NULL};
+    struct mc2_sequence *each[] = {&turns[0], NULL};
     struct mc2_noted noted = {objects, each, 1, notes, CPUS}, wrong = noted;
     open_all(PIECES);
     FILE *nowhere = fopen("/dev/null", "w");
     CHECK(nowhere != NULL);
-    GIVES(mc2_write_notes(&noted, mc2_to_file, nowhere), MC2_DONE);
+    GIVES(mc2_write_notes(&noted, mc2_write_to_file, nowhere), MC2_DONE);
     GIVES(mc2_write_notes(&noted, NULL, nowhere), MC2_BAD_POINTER);
-    GIVES(mc2_write_notes(NULL, mc2_to_file, nowhere), MC2_BAD_POINTER);
+    GIVES(mc2_write_notes(NULL, mc2_write_to_file, nowhere), MC2_BAD_POINTER);
     wrong.objects = NULL;
-    GIVES(mc2_write_notes(&wrong, mc2_to_file, nowhere), MC2_BAD_POINTER);
+    GIVES(mc2_write_notes(&wrong, mc2_write_to_file, nowhere), MC2_BAD_POINTER);
     wrong = noted, wrong.object_count = 2;
-    GIVES(mc2_write_notes(&wrong, mc2_to_file, nowhere), MC2_BAD_POINTER);
+    GIVES(mc2_write_notes(&wrong, mc2_write_to_file, nowhere), MC2_BAD_POINTER);
     each[1] = &turns[1];
-    GIVES(mc2_write_notes(&wrong, mc2_to_file, nowhere), MC2_BAD_OBJECT);
+    GIVES(mc2_write_notes(&wrong, mc2_write_to_file, nowhere), MC2_BAD_OBJECT);
     wrong.object_count = MC2_MOST_OBJECTS + 1;
-    GIVES(mc2_write_notes(&wrong, mc2_to_file, nowhere), MC2_BAD_COUNT);
+    GIVES(mc2_write_notes(&wrong, mc2_write_to_file, nowhere), MC2_BAD_COUNT);
     wrong = noted, wrong.cpus = MC2_MOST_CPUS + 1;
-    GIVES(mc2_write_notes(&wrong, mc2_to_file, nowhere), MC2_BAD_COUNT);
+    GIVES(mc2_write_notes(&wrong, mc2_write_to_file, nowhere), MC2_BAD_COUNT);
     wrong.cpus = 0;
-    GIVES(mc2_write_notes(&wrong, mc2_to_file, nowhere), MC2_BAD_COUNT);
+    GIVES(mc2_write_notes(&wrong, mc2_write_to_file, nowhere), MC2_BAD_COUNT);
     // A note of an object that isn't described.
     work(0, 1);
-    GIVES(mc2_write_notes(&noted, mc2_to_file, nowhere), MC2_BAD_OBJECT);
+    GIVES(mc2_write_notes(&noted, mc2_write_to_file, nowhere), MC2_BAD_OBJECT);
     fclose(nowhere);
 }
 
 static void check_most_notes(void) {
     static union mc2_note_piece many[MC2_MOST_ENTRIES * 3];
     open_all(PIECES);
-    GIVES(mc2_open_turns(&turns[0], MC2_MOST_EVENTS), MC2_DONE);
+    GIVES(mc2_open_sequence(&turns[0], MC2_MOST_EVENTS), MC2_DONE);
     GIVES(mc2_open_notes(&notes[0], many, sizeof many / sizeof many[0]), MC2_DONE);
     for (unsigned at = 0; at < MC2_MOST_ENTRIES; at++)
         work(0, 0);
-    GIVES(mc2_take_turn(&turns[0], &notes[0]), MC2_NO_TURN);
+    GIVES(mc2_next_seq(&turns[0], &notes[0]), MC2_NO_SEQ);
     GIVES(note_one(0, 0, MC2_MOST_ENTRIES), MC2_TRANSCRIPT_FULL);
     CHECK(notes[0].used == 2 * MC2_MOST_ENTRIES && notes[0].count == MC2_MOST_ENTRIES);
 }
@@ -130,7 +130,7 @@ static int print_random(uint64_t seed) {
     open_all(PIECES);
     for (unsigned at = 0; at < count; at++) {
         struct chosen it = {below(CPUS, &seed), below(OBJECTS, &seed), 0};
-        it.turn = mc2_take_turn(&turns[it.object], &notes[it.cpu]);
+        it.turn = mc2_next_seq(&turns[it.object], &notes[it.cpu]);
         if (harm == 0 || below(8, &seed) > 0)
             chosen[kept++] = it;
         if (harm > 0 && below(8, &seed) == 0) {
@@ -146,7 +146,7 @@ static int print_random(uint64_t seed) {
     }
     for (unsigned at = 0; at < kept; at++)
         GIVES(note_one(chosen[at].cpu, chosen[at].object, chosen[at].turn), MC2_DONE);
-    GIVES(write_all(NULL, mc2_to_file, stdout), MC2_DONE);
+    GIVES(write_all(NULL, mc2_write_to_file, stdout), MC2_DONE);
     return is_right(chosen, kept, 0) && is_right(chosen, kept, 1) ? 0 : 4;
 }
 

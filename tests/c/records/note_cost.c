@@ -16,17 +16,17 @@ static const struct mc2_object object = {"q", MC2_QUEUE, MC2_TICKET, CALLS, 1024
 static union mc2_note_piece memory[PIECES];
 static struct mc2_recorder recorder;
 static struct mc2_notes notes;
-static struct mc2_turns turns;
+static struct mc2_sequence turns;
 
 static struct mc2_step step_of(volatile uint32_t *thread) {
     *thread = (*thread + 7) % 1024;
-    return mc2_answer(mc2_ask(MC2_ENQ, *thread, 0), MC2_OK, 0);
+    return mc2_step_of(mc2_call_of(MC2_ENQ, *thread, 0), MC2_OK, 0);
 }
 
 static int note_all(volatile uint32_t *thread) {
     int failed = 0;
     for (uint32_t call = 0; call < CALLS; call++) {
-        uint32_t turn = mc2_take_turn(&turns, &notes);
+        uint32_t turn = mc2_next_seq(&turns, &notes);
         struct mc2_step step = step_of(thread);
         failed |= mc2_note(&notes, 0, turn, call, &step, 1, 1);
     }
@@ -36,10 +36,10 @@ static int note_all(volatile uint32_t *thread) {
 static int record_all(volatile uint32_t *thread) {
     int failed = 0;
     for (uint32_t call = 0; call < CALLS; call++) {
-        failed |= mc2_room(&recorder, 0, 0);
+        failed |= mc2_recorder_room(&recorder, 0, 0);
         struct mc2_step step = step_of(thread);
-        failed |= mc2_event(&recorder, 0, 0, &step, 1);
-        failed |= mc2_entry(&recorder, 0, 0, call, &step.call, 1, &step, 1);
+        failed |= mc2_recorder_event(&recorder, 0, 0, &step, 1);
+        failed |= mc2_recorder_entry(&recorder, 0, 0, call, &step.call, 1, &step, 1);
     }
     return failed;
 }
@@ -78,16 +78,16 @@ static void tell(const char *what, size_t bytes, double *rounds) {
 int main(void) {
     static double noted[ROUNDS], recorded[ROUNDS], made[ROUNDS];
     for (unsigned round = 0; round < ROUNDS; round++) {
-        if (mc2_open(&recorder, &object, 1, 1, CALLS) != MC2_DONE || mc2_open_turns(&turns, CALLS) != MC2_DONE ||
+        if (mc2_recorder_open(&recorder, &object, 1, 1, CALLS) != MC2_DONE || mc2_open_sequence(&turns, CALLS) != MC2_DONE ||
             mc2_open_notes(&notes, memory, PIECES) != MC2_DONE)
             return 1;
         noted[round] = nanoseconds_of(note_all);
         recorded[round] = nanoseconds_of(record_all);
         made[round] = nanoseconds_of(make_all);
-        mc2_close(&recorder);
+        mc2_recorder_close(&recorder);
     }
     tell("mc2_note.h", notes.used / CALLS * sizeof *memory, noted);
-    tell("mc2_record.h", sizeof(struct mc2_event_line) + sizeof(struct mc2_entry_line), recorded);
+    tell("mc2_record.h", sizeof(struct mc2_priv_event) + sizeof(struct mc2_priv_entry), recorded);
     tell("the call alone", 0, made);
     return 0;
 }

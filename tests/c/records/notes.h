@@ -1,18 +1,18 @@
-// The checks that note.c and own_note.c share. A program that includes this file defines what the header calls OPEN_NOTES, OPEN_TURNS,
+// The checks that note.c and custom_note.c share. A program that includes this file defines what the header calls OPEN_NOTES, OPEN_TURNS,
 // HAS_ROOM, TAKE_TURN, NOTE and STEP, with NOTE_PIECES, MOST_OBJECTS and MOST_TURNS. It defines the functions declared here.
 #include "check.h"
 
 enum { CPUS = 3, OBJECTS = 2, PIECES = 400, EVENTS = 40 };
 
 static struct mc2_notes notes[CPUS];
-static struct mc2_turns turns[OBJECTS];
+static struct mc2_sequence turns[OBJECTS];
 static union mc2_note_piece memory[CPUS][PIECES];
 
 // Steps that are right in each order: one by its number, and the longest.
 static STEP step_of(uint32_t number);
 static STEP longest_step(void);
 // Writes both objects and all CPUs.
-static int write_all(const void *unused, mc2_take take, void *to);
+static int write_all(const void *unused, mc2_write_fn take, void *to);
 
 static const char *text_now(void) { return text_by(write_all, NULL); }
 
@@ -41,13 +41,13 @@ static void check_opening(void) {
     GIVES(OPEN_NOTES(&notes[0], memory[0], NOTE_PIECES), MC2_DONE);
     GIVES(OPEN_TURNS(NULL, 1), MC2_BAD_POINTER);
     GIVES(OPEN_TURNS(&turns[0], 0), MC2_BAD_COUNT);
-    GIVES(TAKE_TURN(&turns[0], &notes[0]), MC2_NO_TURN);
+    GIVES(TAKE_TURN(&turns[0], &notes[0]), MC2_NO_SEQ);
     GIVES(OPEN_TURNS(&turns[0], MOST_TURNS + 1), MC2_BAD_COUNT);
     GIVES(OPEN_TURNS(&turns[0], MOST_TURNS), MC2_DONE);
-    GIVES(TAKE_TURN(NULL, &notes[0]), MC2_NO_TURN);
-    GIVES(TAKE_TURN(&turns[0], NULL), MC2_NO_TURN);
+    GIVES(TAKE_TURN(NULL, &notes[0]), MC2_NO_SEQ);
+    GIVES(TAKE_TURN(&turns[0], NULL), MC2_NO_SEQ);
     // A CPU without a turn has ended the notes of the object.
-    GIVES(TAKE_TURN(&turns[0], &notes[0]), MC2_NO_TURN);
+    GIVES(TAKE_TURN(&turns[0], &notes[0]), MC2_NO_SEQ);
     CHECK(sizeof(union mc2_note_piece) == 16);
 }
 
@@ -61,7 +61,7 @@ static void check_bad_notes(void (*spoil)(STEP *step, bool reply)) {
     GIVES(NOTE(&notes[0], 0, 0, 0, NULL, 1, 1), MC2_BAD_POINTER);
     GIVES(NOTE(&notes[0], MOST_OBJECTS, 0, 0, steps, 1, 1), MC2_BAD_OBJECT);
     GIVES(NOTE(&notes[0], UINT32_MAX, 0, 0, steps, 1, 1), MC2_BAD_OBJECT);
-    GIVES(NOTE(&notes[0], 0, MC2_NO_TURN, 0, steps, 1, 1), MC2_LOG_FULL);
+    GIVES(NOTE(&notes[0], 0, MC2_NO_SEQ, 0, steps, 1, 1), MC2_LOG_FULL);
     GIVES(NOTE(&notes[0], 0, 0, 0, steps, 0, 0), MC2_BAD_COUNT);
     GIVES(NOTE(&notes[0], 0, 0, 0, steps, 1, 0), MC2_BAD_COUNT);
     GIVES(NOTE(&notes[0], 0, 0, 0, steps, 1, 2), MC2_BAD_COUNT);
@@ -87,8 +87,8 @@ static void check_room(void) {
     GIVES(NOTE(&notes[0], 0, first, 0, steps, 8, 8), MC2_DONE);
     CHECK(notes[0].used == NOTE_PIECES && !HAS_ROOM(&notes[0]));
     // The first that gets no turn ends the notes of that object, for the others too, and of no other object.
-    GIVES(TAKE_TURN(&turns[0], &notes[0]), MC2_NO_TURN);
-    GIVES(TAKE_TURN(&turns[0], &notes[1]), MC2_NO_TURN);
+    GIVES(TAKE_TURN(&turns[0], &notes[0]), MC2_NO_SEQ);
+    GIVES(TAKE_TURN(&turns[0], &notes[1]), MC2_NO_SEQ);
     GIVES(TAKE_TURN(&turns[1], &notes[1]), 1);
     GIVES(NOTE(&notes[0], 1, second, 0, steps, 8, 8), MC2_DONE);
     GIVES(note_one(0, 1, 2), MC2_TRANSCRIPT_FULL);
@@ -97,7 +97,7 @@ static void check_room(void) {
 
 // What a lock that lets two in does to the turns: both see the same count.
 static void take_one_turn(uint32_t first, uint32_t second) {
-    struct mc2_turns seen = turns[0];
+    struct mc2_sequence seen = turns[0];
     uint32_t one = TAKE_TURN(&turns[0], &notes[first]), other = TAKE_TURN(&seen, &notes[second]);
     CHECK(one == other);
     GIVES(note_one(first, 0, one), MC2_DONE);
@@ -113,8 +113,8 @@ static void note_late(void) {
 
 // A note fits in this memory, and then none.
 static void fill_memory(void) {
-    GIVES(TAKE_TURN(&turns[0], &notes[0]), MC2_NO_TURN);
-    GIVES(note_one(0, 0, MC2_NO_TURN), MC2_LOG_FULL);
+    GIVES(TAKE_TURN(&turns[0], &notes[0]), MC2_NO_SEQ);
+    GIVES(note_one(0, 0, MC2_NO_SEQ), MC2_LOG_FULL);
     work(2, 1);
 }
 
@@ -137,5 +137,5 @@ static void print_case(const char *name) {
         GIVES(note_one(turn % CPUS, 0, turn), MC2_DONE);
     if (!is_last && !is_full && !is_beyond)
         work(1, 0);
-    GIVES(write_all(NULL, mc2_to_file, stdout), MC2_DONE);
+    GIVES(write_all(NULL, mc2_write_to_file, stdout), MC2_DONE);
 }

@@ -14,7 +14,7 @@ int main(void) {
     size_t blocks = 0;
     mc2_heap_add(memory, sizeof memory);
     uint32_t thread = kernel_calls();
-    size_t left = mc2_heap_free(&blocks);
+    size_t left = mc2_heap_available(&blocks);
     if (thread != 3 || left != sizeof memory || blocks != 1) {
         fprintf(stderr, "thread %u, %zu bytes in %zu blocks are left\n", thread, left, blocks);
         return 1;

@@ -30,7 +30,7 @@ pub returns-in-Err-empty-clause-place : goal.returns-in-Err-empty-clause-place
 returns-in-Err-empty-clause-place c =
     let leaving = c.in-Err-empty.leaving in
     let same = c.in-Err-empty.ensures.missed.1.made.caller ∙ (c.in-Err.ensures.none.1.caller ∙ (c.apply_held.ensures.caller ∙ (c.in-Hold.ensures.got.1.caller ∙ c.clear.ensures.step.caller))) in
-    (at.Leaving leaving, stands_in_line c.args.place.now.pass c.keep.new.line (at.Leaving leaving) c.requires.away.0 c.keep.ensures.line, c.in-Err-empty.ensures.missed.0, subst IsOne (sym same) c.requires.one)
+    (at.Leaving leaving, stands_in_line c.args.place.now.pass c.keep.new.line (at.Leaving leaving) c.requires.away.0 c.keep.ensures.line refl, c.in-Err-empty.ensures.missed.0, subst IsOne (sym same) c.requires.one)
 
 pub returns-in-Err-empty-clause-reports : goal.returns-in-Err-empty-clause-reports
 returns-in-Err-empty-clause-reports c =
@@ -40,7 +40,7 @@ returns-in-Err-empty-clause-reports c =
       whole.Kept done false,
       at.Leaving leaving,
       (reported, refl),
-      stands_in_line c.args.place.now.pass c.keep.new.line (at.Leaving leaving) c.requires.away.0 c.keep.ensures.line,
+      stands_in_line c.args.place.now.pass c.keep.new.line (at.Leaving leaving) c.requires.away.0 c.keep.ensures.line refl,
       record {
         steps = suc zero;
         got = c.in-Hold.hold;

@@ -1,4 +1,4 @@
-use Rattle.std.proofs.Common.{◌∙◌, zero, suc, true, ap, subst, sym}
+use Rattle.std.proofs.Common.{refl, ◌∙◌, zero, suc, true, ap, subst, sym}
 use Rattle.guarded_cell.specs.declared.cell.AnyCell.TheVariants.{Ticket}
 use Rattle.cell_callers.specs.CallerStates.{IsOne}
 use Rattle.cell_callers.proofs.Places.{stands_idle, stands_in_line}
@@ -31,9 +31,9 @@ returns-in-Ok-clause-reports c = (
 pub returns-in-Err-clause-place : goal.returns-in-Err-clause-place
 returns-in-Err-clause-place c =
     let same = c.in-Err.ensures.missed.1.1.made.caller ∙ c.draw.ensures.step.1.caller in
-    (at.Drawn c.in-Err.drawn, stands_in_line c.args.place.now.pass c.wait_drawn.new.line (at.Drawn c.in-Err.drawn) c.requires.away.0 c.wait_drawn.ensures.line, c.in-Err.ensures.missed.0, subst IsOne (sym same) c.requires.one)
+    (at.Drawn c.in-Err.drawn, stands_in_line c.args.place.now.pass c.wait_drawn.new.line (at.Drawn c.in-Err.drawn) c.requires.away.0 c.wait_drawn.ensures.line refl, c.in-Err.ensures.missed.0, subst IsOne (sym same) c.requires.one)
 
 pub returns-in-Err-clause-reports : goal.returns-in-Err-clause-reports
 returns-in-Err-clause-reports c =
-    let stands = stands_in_line c.args.place.now.pass c.wait_drawn.new.line (at.Drawn c.in-Err.drawn) c.requires.away.0 c.wait_drawn.ensures.line in
+    let stands = stands_in_line c.args.place.now.pass c.wait_drawn.new.line (at.Drawn c.in-Err.drawn) c.requires.away.0 c.wait_drawn.ensures.line refl in
     (whole.Waits, at.Drawn c.in-Err.drawn, (ap (λ n. (n, c.args.answered.now)) c.wait_drawn.ensures.reported, c.wait_drawn.ensures.looks), stands, (suc zero, (at.Drawn c.draw.result, c.draw.ensures.step, c.in-Err.ensures.missed.1)))

@@ -1,0 +1,160 @@
+// mc2_cells_raw.h - the exported functions of libcells.a, for kernels with wait loops of their own.
+//
+// Most programs use mc2_cells.h, which has the wait loops around these. crates/cells/README.md says what is proved of each. The
+// caller obligations of mc2_cells.h apply.
+//
+// Common to all of them:
+//   Context   Non-blocking: none waits for another CPU. Those marked [heap] call rattle_alloc or rattle_dealloc. An interrupt
+//             handler must not call objects if it came within another call of this header on the same CPU: where handlers call
+//             objects, disable interrupts around each call (MC2_IRQ_OFF).
+//   Locking   One call at a time per cell handle and per caller. Different callers of one cell may be used concurrently.
+//   Returns   MC2_REFUSED if the handle isn't in the state that the function needs. A refused call changes nothing.
+//   Ordering  Sequentially consistent atomic operations, by reading.
+#ifndef MC2_CELLS_RAW_H
+#define MC2_CELLS_RAW_H
+
+#include "mc2_objects.h"
+#include "mc2_wait.h"
+
+#ifdef __cplusplus
+extern "C" {
+#endif
+
+// A cell: the library's part, and the number of callers that sleep or are throttled at it.
+struct mc2_cell {
+    void *impl;
+    struct mc2_waiters waiters;
+};
+
+// A caller: the library's part, the waiters of its cell, and how often its last call read the lock.
+struct mc2_caller {
+    void *impl;
+    struct mc2_waiters *waiters;
+    uint64_t looks;
+};
+
+// The library's part of either, as mc2_handle_free takes it.
+struct mc2_handle {
+    void *impl;
+};
+
+// What a cell is opened with: enum mc2_lock_kind, enum mc2_kind, the capacity of the log in events or 0 for no log, the number of
+// CPUs; size, channels and quotas as in struct mc2_object. Fields that the kind doesn't use are ignored.
+struct mc2_cell_opening {
+    uint32_t lock, kind, events, cpus, size, channels;
+    uint32_t quotas[MC2_OWNERS];
+};
+
+// ---- Handles
+
+// Allocates an empty handle and stores it in *impl. [heap]
+// Free it once with mc2_handle_free, whatever later calls return.
+// Returns  MC2_DONE; MC2_NO_MEMORY: *impl is unchanged and there is nothing to free.
+uint32_t mc2_handle_alloc(void **impl);
+
+// Frees a handle with everything that it has. [heap]
+// Freeing an idle caller that wasn't returned leaves its CPU without a caller: that cell can't be closed any more.
+// Returns  MC2_DONE; MC2_REFUSED: it is a caller that is in line or holds the lock. Free it once it is idle.
+uint32_t mc2_handle_free(struct mc2_handle handle);
+
+// Opens a cell in an empty handle. [heap]
+// Returns  MC2_DONE; MC2_REFUSED: the handle isn't empty; MC2_NO_MEMORY, MC2_BAD_PARAM: the handle is still empty, and can be
+//          used again or freed.
+uint32_t mc2_handle_open_cell(struct mc2_cell *cell, const struct mc2_cell_opening *opening);
+
+// Creates, in the empty handle `caller`, the caller of the highest CPU number that has none. [heap]
+// Returns  MC2_DONE; MC2_REFUSED: the cell isn't open, each of its CPUs has a caller, or `caller` isn't empty; MC2_NO_MEMORY:
+//          2^63 callers share the cell.
+uint32_t mc2_handle_open_caller(struct mc2_cell *cell, struct mc2_caller *caller);
+
+// Returns an idle caller to its cell; the caller's handle is then empty.
+// Callers go back in ascending order of CPU, which is the reverse of the order in which they were created.
+// The cell must be the caller's own: this isn't checked.
+// Returns  MC2_DONE; MC2_REFUSED: the cell isn't open, the caller isn't idle, or a caller of a lower CPU is still out.
+uint32_t mc2_handle_return_caller(struct mc2_cell *cell, struct mc2_caller *caller);
+
+// Closes a cell to which every caller was returned. The object and its log remain. [heap]
+// Returns  MC2_DONE; MC2_REFUSED: the cell isn't open, or a caller is still out; MC2_BUSY.
+uint32_t mc2_handle_close_cell(struct mc2_cell *cell);
+
+// Reads one step of the log of a closed cell. Both indices count from 0; an event has one step for each of its 1 to 8 calls.
+// Returns  MC2_DONE: *step is written; MC2_NOT_FOUND: no such step, the cell isn't closed, or its log isn't kept.
+uint32_t mc2_handle_read_step(struct mc2_cell *cell, size_t event, size_t index, struct mc2_logged_step *step);
+
+// Reopens a closed cell on its object, behind either lock, for 1 to 64 CPUs. The log continues with the room that was left. [heap]
+// Returns  MC2_DONE; MC2_REFUSED: the cell isn't closed; MC2_BAD_PARAM, MC2_NO_MEMORY: it is still closed, as before.
+uint32_t mc2_handle_reopen_cell(struct mc2_cell *cell, uint32_t lock, uint32_t cpus);
+
+// Frees the log of a closed cell. From then on its log isn't kept: it can't be read, and has room for 2^64 - 1 events. [heap]
+// Returns  MC2_DONE; MC2_REFUSED: the cell isn't closed.
+uint32_t mc2_handle_drop_log(struct mc2_cell *cell);
+
+// ---- The lock, one step at a time
+
+// Performs the caller's next step towards the lock: one atomic operation on one word of it.
+// Call it until it returns MC2_ACQUIRED or MC2_ACQUIRED_BY_LOOK. A caller in line must continue: there is no way back.
+// Returns  MC2_STEPPED: call again at once; MC2_AGAIN: pause first; MC2_ACQUIRED, MC2_ACQUIRED_BY_LOOK; MC2_REFUSED: it already
+//          holds the lock, or isn't a caller.
+uint32_t mc2_acquire_step(struct mc2_caller *caller);
+
+// Performs the caller's next step to release the lock. Call it until it returns MC2_RELEASED.
+// Returns  MC2_STEPPED; MC2_AGAIN: a successor has entered an MCS queue and hasn't linked itself yet; MC2_RELEASED; MC2_REFUSED:
+//          it doesn't hold the lock, or isn't a caller.
+uint32_t mc2_release_step(struct mc2_caller *caller);
+
+// Acquires the lock if no one holds it or is in line. Looks at it once at most. Interrupt handlers may call this with a caller of
+// their own.
+// Returns  MC2_ACQUIRED_BY_LOOK; MC2_BUSY: nothing was changed; MC2_REFUSED: the caller isn't idle, or isn't a caller.
+uint32_t mc2_poll_try_acquire(struct mc2_caller *caller);
+
+// Performs one call as one event of the log. The caller must hold the lock.
+// Returns  MC2_DONE: *reply is written; MC2_LOG_FULL, MC2_NOT_FOUND: nothing was done; MC2_REFUSED: it doesn't hold the lock.
+uint32_t mc2_apply_step(struct mc2_caller *caller, const struct mc2_call *call, struct mc2_reply *reply);
+
+// ---- Whole calls, without waiting
+
+// Acquires the lock, performs the call as one event, and releases the lock, as far as this needs no waiting. It looks at the lock
+// once at most. Each look adds 1 to *looks.
+// Returns  MC2_DONE: *reply is written, and the caller is idle.
+//          MC2_LOG_FULL: the call wasn't performed, and the caller is idle.
+//          MC2_AGAIN: the caller is in line, and the object is untouched. Pause, then call again with the same arguments.
+//          MC2_DONE_HELD, MC2_LOG_FULL_HELD: as without HELD, but a successor hasn't linked itself yet, so the lock is still
+//          held. Release it by mc2_release or mc2_release_step.
+//          MC2_NOT_FOUND: there is no such call. A caller in line stays there.
+//          MC2_REFUSED: the caller holds the lock, is between single steps before its first look, or isn't a caller.
+uint32_t mc2_poll_call(struct mc2_caller *caller, const struct mc2_call *call, struct mc2_reply *reply, uint64_t *looks);
+
+// The same for 1 to 8 calls, performed in order as one event. The event ends with the first call whose reply refuses it.
+// Returns  as mc2_poll_call, and MC2_REFUSED for 0 or more than 8 calls. MC2_NOT_FOUND: one of the calls doesn't exist, and none
+//          was performed. The replies and their count are written if the event was performed; replies past the count are
+//          unspecified.
+uint32_t mc2_poll_batch(struct mc2_caller *caller, const struct mc2_batch *batch, struct mc2_replies *replies, uint64_t *looks);
+
+// As mc2_poll_call, but never joins the line. Interrupt handlers may call this with a caller of their own.
+// Returns  as mc2_poll_call, with MC2_BUSY in place of MC2_AGAIN: nothing was done, and the caller is idle. MC2_REFUSED: the caller
+//          isn't idle, or isn't a caller.
+uint32_t mc2_poll_try_call(struct mc2_caller *caller, const struct mc2_call *call, struct mc2_reply *reply);
+
+// Each call of the four kinds of objects, as mc2_poll_call performs it. These are faster: the call is known when the library is
+// compiled. At an object of another kind the call is an event too, with the reply MC2_BADCALL.
+uint32_t mc2_poll_enq(struct mc2_caller *caller, uint32_t thread, struct mc2_reply *reply, uint64_t *looks);
+uint32_t mc2_poll_deq(struct mc2_caller *caller, struct mc2_reply *reply, uint64_t *looks);
+uint32_t mc2_poll_remove(struct mc2_caller *caller, uint32_t thread, struct mc2_reply *reply, uint64_t *looks);
+uint32_t mc2_poll_len(struct mc2_caller *caller, struct mc2_reply *reply, uint64_t *looks);
+uint32_t mc2_poll_alloc(struct mc2_caller *caller, uint32_t owner, struct mc2_reply *reply, uint64_t *looks);
+uint32_t mc2_poll_free(struct mc2_caller *caller, uint32_t owner, uint32_t page, struct mc2_reply *reply, uint64_t *looks);
+uint32_t mc2_poll_left(struct mc2_caller *caller, struct mc2_reply *reply, uint64_t *looks);
+uint32_t mc2_poll_put(struct mc2_caller *caller, uint8_t byte, struct mc2_reply *reply, uint64_t *looks);
+uint32_t mc2_poll_get(struct mc2_caller *caller, struct mc2_reply *reply, uint64_t *looks);
+uint32_t mc2_poll_level(struct mc2_caller *caller, struct mc2_reply *reply, uint64_t *looks);
+uint32_t mc2_poll_ready(struct mc2_caller *caller, uint32_t thread, struct mc2_reply *reply, uint64_t *looks);
+uint32_t mc2_poll_next(struct mc2_caller *caller, struct mc2_reply *reply, uint64_t *looks);
+uint32_t mc2_poll_sleep(struct mc2_caller *caller, uint32_t channel, uint32_t thread, struct mc2_reply *reply, uint64_t *looks);
+uint32_t mc2_poll_wake(struct mc2_caller *caller, uint32_t channel, struct mc2_reply *reply, uint64_t *looks);
+uint32_t mc2_poll_wakeall(struct mc2_caller *caller, uint32_t channel, struct mc2_reply *reply, uint64_t *looks);
+
+#ifdef __cplusplus
+}
+#endif
+
+#endif

@@ -1,0 +1,68 @@
+// mc2_result.h - what the functions of all mc2 headers return: 0 for success, and a positive number otherwise.
+#ifndef MC2_RESULT_H
+#define MC2_RESULT_H
+
+enum mc2_result {
+    // Success.
+    MC2_DONE = 0,
+
+    // ---- Cells, callers and locks. The library returns these numbers: its contract pins each of them.
+
+    // The caller is in line and its turn hasn't come: pause, then call again.
+    MC2_AGAIN = 1,
+    // The caller holds the lock: it found the lock free without a look, or by a look.
+    MC2_ACQUIRED = 2,
+    MC2_ACQUIRED_BY_LOOK = 3,
+    // The lock is released, and the caller is idle.
+    MC2_RELEASED = 4,
+    // The cell or the caller isn't in a state that allows the call. Nothing was changed.
+    MC2_REFUSED = 5,
+    // A try: another caller holds the lock or is in line for it. Closing: the library still shares the cell, which doesn't happen
+    // if the obligations of mc2_cells.h are met.
+    MC2_BUSY = 6,
+    // One step of the lock is done. The next may follow without a pause.
+    MC2_STEPPED = 7,
+    // The log has no room for another event. The call was not performed.
+    MC2_LOG_FULL = 8,
+    // There is no such call, or no such step in the log.
+    MC2_NOT_FOUND = 9,
+    // Opening: the allocator had no memory, or there is too little of it; an argument is out of range. Nothing was opened.
+    MC2_NO_MEMORY = 10,
+    MC2_BAD_PARAM = 11,
+    // Whole calls without waiting: as MC2_DONE and MC2_LOG_FULL, but the caller still holds the lock and has to release it.
+    MC2_DONE_HELD = 12,
+    MC2_LOG_FULL_HELD = 13,
+
+    // ---- Recorders
+
+    // The CPU's memory for its notes is full. Nothing was noted.
+    MC2_TRANSCRIPT_FULL = 32,
+    // A pointer is NULL; there is no such object, or its description is wrong; there is no such CPU; a number of calls, steps,
+    // objects, CPUs or entries is out of range, or the recorder isn't open; there is no such call or reply, or a byte is above 255.
+    MC2_BAD_POINTER = 33,
+    MC2_BAD_OBJECT = 34,
+    MC2_BAD_CPU = 35,
+    MC2_BAD_COUNT = 36,
+    MC2_BAD_STEP = 37,
+    // Two CPUs were inside one lock at the same time.
+    MC2_MIXED = 38,
+    // The function that writes the record failed. The record may have been written in part.
+    MC2_WRITE_FAILED = 39
+};
+
+// Returns a short English text for a result, such as "out of memory". The text is constant; don't free it.
+static inline const char *mc2_result_text(int result) {
+    static const char *const cells[] = {"done", "in line, call again", "acquired", "acquired by a look", "released",
+        "not allowed in this state", "busy", "one step done", "the log is full", "no such call or step", "out of memory",
+        "an argument is out of range", "done, the lock is still held", "the log is full, the lock is still held"};
+    static const char *const recorders[] = {"the transcript is full", "a pointer is NULL", "no such object, or a wrong one",
+        "no such CPU",
+        ("too few or too many: there are 1 to 16 objects, 1 to 64 CPUs, 1 to 10,000 entries of each, 1 to 8 calls of an entry and "
+         "1 to 8 steps of an event; or the recorder isn't open"),
+        "no such call or reply, or a byte above 255", "a lock let two CPUs in at the same time", "write failed"};
+    if (result >= MC2_DONE && result <= MC2_LOG_FULL_HELD)
+        return cells[result];
+    return result >= MC2_TRANSCRIPT_FULL && result <= MC2_WRITE_FAILED ? recorders[result - MC2_TRANSCRIPT_FULL] : "no such result";
+}
+
+#endif
