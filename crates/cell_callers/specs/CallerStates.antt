@@ -71,7 +71,7 @@ module _ {O P C R : Type 0} {g : Ghosts O P C R} {call_eq : Eq C} {call_default 
   has_none (at.Leaving l) = false
   has_none (at.Passing p) = false
 
-  -- it is idle
+  -- it is idle: it isn't in line and doesn't hold the lock
   abbrev pub is_idle : CallerState O P C R g call_eq call_default reply_eq reply_default → Bool
   is_idle (at.Idle p) = true
   is_idle p = false

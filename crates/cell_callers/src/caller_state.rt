@@ -7,7 +7,7 @@ use word_rule::{Hold, Pass};
 
 /// The state of a caller, with all that it has there. It can't be dropped.
 pub enum CallerState<O: SeqObject> {
-    /// It is idle.
+    /// It is idle: it isn't in line and doesn't hold the lock.
     Idle(Pass<O>),
     /// It is in the line of a ticket lock.
     Drawn(Drawn<O>),
