@@ -24,7 +24,7 @@ module _ {O P C R : Type 0} (g : Ghosts O P C R) {call_eq : Eq C} {call_default 
   IsHeldApply h call (Ok reply) k = HasApplied h call reply k
   IsHeldApply h call (Err full) k = WasFull h k
 
-  -- the calls, up to and with the first refused, were done as one event of the CPU, the last of the log, answered as the object answers there
+  -- one event of the CPU, the last of the log, has the calls up to and with the first refused, answered as the object answers there
   pub record HasAppliedAll (h : Hold O P C R g call_eq call_default reply_eq reply_default) (calls : List C) (done : Steps O P C R) (k : Hold O P C R g call_eq call_default reply_eq reply_default) : Type 0 where
     pub caller : (view_of_hold k).caller ≡ (view_of_hold h).caller
     pub steps : done.list.items ≡ answers g (view_of_hold h).history.state calls
