@@ -14,7 +14,7 @@ struct Report { kind: u32, numbers: [u64; 3] }
 // As include/mc2_judge.h declares them.
 unsafe extern "C" {
     fn mc2_audit(text: *const u8, length: usize, report: &mut Report);
-    fn mc2_merge(text: *const u8, length: usize, room: *mut EntryId, entries: usize, report: &mut Report);
+    fn mc2_merge(text: *const u8, length: usize, order: *mut EntryId, capacity: usize, report: &mut Report);
 }
 
 macro_rules! faults {
@@ -35,15 +35,15 @@ macro_rules! faults {
 }
 faults! {
     1 TooLong { object } "A log has more events than its limit."
-    2 WrongStep { object, event, step } "A step has a wrong reply, or follows one whose reply refuses."
-    3 RoomWasLeft { cpu, entry } "An entry found no room in the log, though there was room."
-    4 NotItsEvent { cpu, entry } "An entry's steps aren't those of its CPU's next event on that object, or there is none."
-    5 NotAsked { cpu, entry } "An entry's steps aren't the calls that it asked for."
-    6 Unclaimed { object, event } "An event belongs to no entry."
-    7 Cycle { entries } "`merge`: the record is sound, but the entries in the first `entries` places of the room wait for one another."
-    8 BadLine { line } "The text isn't a record: the first line, from 1, with which no record continues."
+    2 WrongStep { object, event, step } "A step has a wrong reply, or follows a step of its event that refused."
+    3 RoomWasLeft { cpu, entry } "An entry says that the log had no room, but it had."
+    4 NotItsEvent { cpu, entry } "An entry's steps aren't those of the CPU's next event on that object, or there is no next one."
+    5 NotAsked { cpu, entry } "An entry's steps aren't the calls that were asked for."
+    6 Unclaimed { object, event } "An event has no entry."
+    7 Cycle { entries } "`merge`: the record is sound, but its entries have no order. The first `entries` of `order` wait for one another."
+    8 BadLine { line } "The text isn't a record: the first line, from 1, that can't follow the lines before it."
     9 OutOfMemory {} "The allocator had no memory."
-    10 NoRoom { entries } "`merge`: the room is too small, and nothing was written to it. It needs that many places."
+    10 NoRoom { entries } "`merge`: `order` needs that many places. Nothing was written to it."
 }
 
 impl core::error::Error for Fault {}
@@ -51,8 +51,8 @@ impl fmt::Display for Fault {
     fn fmt(&self, f: &mut fmt::Formatter) -> fmt::Result { write!(f, "{self:?}") }
 }
 
-/// Judges a text: returns `Ok` if it is a sound record, and its first fault otherwise. It allocates at most 4 bytes of memory for
-/// each byte of the text, and 1,100,000 more, and frees all of it. This bound is measured, not proved.
+/// Judges a text: returns `Ok` if it is a sound record, and its first fault otherwise. At any time it has allocated at most 4 bytes
+/// for each byte of the text and 1,100,000 more, and it frees all of it. These figures are measured, not proved.
 pub fn audit(text: &(impl AsRef<[u8]> + ?Sized)) -> Result<(), Fault> {
     let (text, mut report) = (text.as_ref(), Report::default());
     // SAFETY: a slice's pointer isn't null, nobody writes to a borrowed text, and the library keeps nothing.
@@ -60,11 +60,11 @@ pub fn audit(text: &(impl AsRef<[u8]> + ?Sized)) -> Result<(), Fault> {
     judged(report).map(|_| ())
 }
 
-/// Orders the entries of a record, and returns them in `room`: the entries of a CPU in its order, the entries of an object in the
+/// Writes the entries of a record to `order`, and returns them: the entries of a CPU in its order, the entries of an object in the
 /// order of its log. A record has at most 640,000 entries. It allocates memory as [`audit`] does.
-pub fn merge<'a>(text: &(impl AsRef<[u8]> + ?Sized), room: &'a mut [EntryId]) -> Result<&'a [EntryId], Fault> {
+pub fn merge<'a>(text: &(impl AsRef<[u8]> + ?Sized), order: &'a mut [EntryId]) -> Result<&'a [EntryId], Fault> {
     let (text, mut report) = (text.as_ref(), Report::default());
-    // SAFETY: as in `audit`, and nobody else uses the room.
-    unsafe { mc2_merge(text.as_ptr(), text.len(), room.as_mut_ptr(), room.len(), &mut report) };
-    judged(report).map(|entries| &room[..entries])
+    // SAFETY: as in `audit`, and nobody else uses `order`.
+    unsafe { mc2_merge(text.as_ptr(), text.len(), order.as_mut_ptr(), order.len(), &mut report) };
+    judged(report).map(|entries| &order[..entries])
 }

@@ -34,11 +34,11 @@ fn four_threads_are_sound_and_an_edit_is_not() {
             let threads = callers.map(|it| scope.spawn(|| work(it)));
             threads.into_iter().map(|it| it.join().unwrap()).collect()
         });
-        let (mut text, mut room) = (String::new(), [EntryId::default(); 8000]);
+        let (mut text, mut order) = (String::new(), [EntryId::default(); 8000]);
         cell.close().unwrap().write_record(&mut text, "pages", &entries).unwrap();
         assert_eq!(audit(&text), Ok(()));
-        assert_eq!(merge(&text, &mut room).map(|it| it.len()), Ok(8000));
-        assert_eq!(merge(&text, &mut room[1..]), Err(Fault::NoRoom { entries: 8000 }));
+        assert_eq!(merge(&text, &mut order).map(|it| it.len()), Ok(8000));
+        assert_eq!(merge(&text, &mut order[1..]), Err(Fault::NoRoom { entries: 8000 }));
         let twice = text.replacen(" = page 1", " = page 0", 1);
         let event = text.lines().skip(5).position(|it| it.contains(" = page 1")).unwrap() as u64;
         assert_eq!(audit(&twice), Err(Fault::WrongStep { object: 0, event, step: 0 }));
