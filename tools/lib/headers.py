@@ -99,9 +99,10 @@ def item_of(group, comment, code):
 def macro_of(group, comment, directive):
     """The macro that a comment is about, or None."""
     found = re.match(r"#define (MC2_\w+(?:\([^)]*\))?)", directive)
-    if not found or not comment or PRIVATE.match(found[1]) or found[1].endswith("_H") or comment_text(comment).startswith("Internal"):
+    text = comment_text(comment)
+    if not found or not text or PRIVATE.match(found[1]) or found[1].endswith("_H") or text.startswith("Internal"):
         return None
-    return Item("macro", group, comment_text(comment), f"#define {found[1]} ..")
+    return Item("macro", group, text, f"#define {found[1]} ..")
 
 
 def items_of(text):

@@ -26,6 +26,12 @@ def read_forms(text):
 
 
 FORMS, RIGHT = read_forms(FILE.read_text(encoding="utf-8"))
+# Files that have one form in their prose, and other forms in code, in a table's head or in a line that is excused.
+PLANTED = {
+    "planted.md": "It goes on, by `tells`.\n\n    it tells code\n\n| Who tells |\n|---|\nIt tells. <!-- plain-ok -->\n",
+    "planted.c": "const char *text = \"it tells\"; /* It goes\n   on, and it goes on. */ int tells;\n",
+    "planted.rs": "let text = \"it tells\"; // It goes on.\n",
+}
 COMMENT = {".rs": re.compile(r"//[/!]? ?(.*)")}
 C_SUFFIXES = (".h", ".hpp", ".c", ".cpp")
 C_TEXT = re.compile(r"\"(?:\\.|[^\"\\\n])*\"|//[^\n]*|/\*.*?\*/|[^\n]", re.DOTALL)
@@ -60,9 +66,13 @@ def odd_forms(name, text):
 
 
 def wrong_forms():
-    """What is wrong with the forms themselves: one that isn't found in its sentence, or one that right English has."""
+    """What is wrong with the forms: one isn't found in its sentence, or is found in right English or in code."""
     for form in FORMS:
         if form.name not in {it.name for it, _ in forms_in(form.wrong)}:
             yield f"{FILE.name}: {form.name} isn't found in its sentence"
     for line in RIGHT:
         yield from (f"{FILE.name}: {form.name} is found in {line!r}" for form, _ in forms_in(line))
+    for name, text in PLANTED.items():
+        found = [*odd_forms(name, text)]
+        if len(found) != 1 or "goes-on" not in found[0][1]:
+            yield f"{FILE.name}: of {name} was found {found}"
