@@ -131,9 +131,10 @@ def items_of(text):
 
 
 def head_of(text):
-    """What a header says of itself, without its name."""
+    """What a header says of itself, without its name. A first paragraph of one line is left to the page's NAME."""
     lines = [it for it in text.partition("\n#ifndef")[0].splitlines() if not it.startswith("#include")]
-    return re.sub(r"\A\w+\.h - [^\n]*\n(?:\n|(?=\S))", "", comment_text(lines))
+    head = re.sub(r"\A\w+\.h - [^\n]*\n\n", "", comment_text(lines))
+    return re.sub(r"\A\w+\.h - (.)", lambda it: it[1].upper(), head)
 
 
 def labelled(found, lines):
@@ -147,7 +148,7 @@ def labelled(found, lines):
 
 def escaped(text):
     """The text with marks that Markdown would take for its own: of a pointer, or of a file between < and >."""
-    return re.sub(r"(?<!\w)\*(?=[a-z])(?!\w+\*)|<(?=[a-z])", r"\\\g<0>", text)
+    return re.sub(r"(?<!\w)\*(?=[a-z])(?![\w ]*\w\*(?!\w))|<(?=[a-z])", r"\\\g<0>", text)
 
 
 def marked(text):
