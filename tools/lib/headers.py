@@ -96,10 +96,10 @@ def item_of(group, comment, code):
     return None
 
 
-def macro_of(group, comment, directive):
-    """The macro that a comment is about, or None."""
-    found = re.match(r"#define (MC2_\w+(?:\([^)]*\))?)", directive)
-    text = comment_text(comment)
+def macro_of(group, comment, guard, directive):
+    """The macro that a comment is about, or None. It is defined below the comment or below its guard, or a program defines it."""
+    found = re.match(r"#(?:define|ifdef) ((MC2_\w+)(?:\([^)]*\))?)", directive)
+    text = comment_text(comment or (guard.get(found[2], []) if found and directive.startswith("#define") else []))
     if not found or not text or PRIVATE.match(found[1]) or found[1].endswith("_H") or text.startswith("Internal"):
         return None
     return Item("macro", group, text, f"#define {found[1]} ..")
@@ -107,7 +107,7 @@ def macro_of(group, comment, directive):
 
 def items_of(text):
     """The public parts of a header, in their order."""
-    lines, comment, group = text.splitlines(), [], ""
+    lines, comment, group, guard = text.splitlines(), [], "", {}
     while lines:
         if lines[0].startswith(("//", "/*")):
             comment = take_comment(lines)
@@ -119,8 +119,9 @@ def items_of(text):
             lines.pop(0)
         elif lines[0].startswith("#"):
             directive = take_directive(lines)
-            item = macro_of(group, comment, directive)
-            comment = [] if directive.startswith("#define") else comment
+            item = macro_of(group, comment, guard, directive)
+            guard |= {it: comment for it in re.findall(r"MC2_\w+", directive) if comment and directive.startswith("#if")}
+            comment = [] if item else comment
             yield from [item] if item else []
         elif re.match(r"extern \"C\"|\}", lines[0]):
             lines.pop(0)
@@ -131,10 +132,9 @@ def items_of(text):
 
 
 def head_of(text):
-    """What a header says of itself, without its name. A first paragraph of one line is left to the page's NAME."""
+    """What a header says of itself, without its name."""
     lines = [it for it in text.partition("\n#ifndef")[0].splitlines() if not it.startswith("#include")]
-    head = re.sub(r"\A\w+\.h - [^\n]*\n\n", "", comment_text(lines))
-    return re.sub(r"\A\w+\.h - (.)", lambda it: it[1].upper(), head)
+    return re.sub(r"\A\w+\.h - (.)", lambda it: it[1].upper(), comment_text(lines))
 
 
 def labelled(found, lines):
