@@ -97,7 +97,7 @@ def item_of(group, comment, code):
 
 
 def macro_of(group, comment, guard, directive):
-    """The macro that a comment is about, or None. It is defined below the comment or below its guard, or a program defines it."""
+    """The macro that a comment is about, or None. It is defined below the comment or its guard, or by a program."""
     found = re.match(r"#(?:define|ifdef) ((MC2_\w+)(?:\([^)]*\))?)", directive)
     text = comment_text(comment or (guard.get(found[2], []) if found and directive.startswith("#define") else []))
     if not found or not text or PRIVATE.match(found[1]) or found[1].endswith("_H") or text.startswith("Internal"):
