@@ -1,4 +1,5 @@
-// mc2_result.h - what the functions of all mc2 headers return: 0 for success, and a positive number otherwise.
+// mc2_result.h - the results of the functions of mc2 headers: 0 for success, and a positive number otherwise. mc2_judge.h and
+// mc2_custom.h return verdicts instead.
 #ifndef MC2_RESULT_H
 #define MC2_RESULT_H
 
@@ -6,7 +7,7 @@ enum mc2_result {
     // Success.
     MC2_DONE = 0,
 
-    // ---- Cells, callers and locks. The library returns these numbers: its contract pins each of them.
+    // ---- Cells, callers and locks. The library returns these numbers: a contract pins each of them.
 
     // The caller is in line and its turn hasn't come: pause, then call again.
     MC2_AGAIN = 1,
@@ -15,12 +16,12 @@ enum mc2_result {
     MC2_ACQUIRED_BY_LOOK = 3,
     // The lock is released, and the caller is idle.
     MC2_RELEASED = 4,
-    // The cell or the caller isn't in a state that allows the call. Nothing was changed.
+    // The cell or the caller isn't in a state that allows the call, or a batch has 0 or more than 8 calls. Nothing was changed.
     MC2_REFUSED = 5,
     // A try: another caller holds the lock or is in line for it. Closing: the library still shares the cell, which doesn't happen
     // if the obligations of mc2_cells.h are met.
     MC2_BUSY = 6,
-    // One step of the lock is done. The next may follow without a pause.
+    // One step of the lock is done. Take the next without a pause.
     MC2_STEPPED = 7,
     // The log has no room for another event. The call was not performed.
     MC2_LOG_FULL = 8,
