@@ -63,7 +63,7 @@ uint32_t mc2_handle_free(struct mc2_handle handle);
 //          used again or freed.
 uint32_t mc2_handle_open_cell(struct mc2_cell *cell, const struct mc2_cell_opening *opening);
 
-// Creates, in the empty handle `caller`, the caller of the highest CPU number that has none. [heap]
+// Creates, in the empty handle `caller`, the caller of the highest CPU number that has none.
 // Returns  MC2_DONE; MC2_REFUSED: the cell isn't open, each of its CPUs has a caller, or `caller` isn't empty; MC2_NO_MEMORY:
 //          2^63 callers share the cell.
 uint32_t mc2_handle_open_caller(struct mc2_cell *cell, struct mc2_caller *caller);

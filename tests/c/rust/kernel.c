@@ -20,6 +20,6 @@ int main(void) {
         fprintf(stderr, "thread %u, %zu bytes in %zu blocks are left\n", thread, left, blocks);
         return 1;
     }
-    printf("calls and a verdict, and all memory is freed\n");
+    printf("calls and a verdict, and all memory is back\n");
     return 0;
 }
