@@ -280,9 +280,7 @@ MC2_PRIV_COLD uint32_t mc2_priv_batch_slow(struct mc2_caller *caller, const stru
     return mc2_priv_call_release(caller, result);
 }
 
-// Performs one call: acquires the lock, performs the call as one event of the log, releases the lock.
-//   call     a call of the object's kind; a call of another kind is an event with the reply MC2_BADCALL
-//   reply    out, on MC2_DONE
+// Performs one call: acquires the lock, performs the call as one event of the log, releases the lock. Arguments as mc2_apply.
 // Returns  MC2_DONE; MC2_LOG_FULL, MC2_NOT_FOUND (no such call): nothing was done; MC2_REFUSED: the caller holds the lock.
 // Context  Blocks as mc2_acquire. Not in an interrupt handler.
 // Ordering Acquire, then release.
@@ -290,7 +288,7 @@ static inline uint32_t mc2_cell_call(struct mc2_caller *caller, const struct mc2
     struct mc2_call asked = *call;
     uint64_t *looks = mc2_priv_begin(caller);
     uint32_t result = MC2_IRQ_OFF(mc2_priv_poll(caller, asked, reply, looks));
-    return result == MC2_DONE ? result : mc2_priv_call_slow(caller, asked, reply, result);
+    return mc2_priv_end(caller, asked.word, asked.first, asked.second, reply, result);
 }
 
 // Performs 1 to 8 calls in order as one event, which ends with the first call whose reply refuses it.

@@ -78,16 +78,13 @@ uint32_t mc2_handle_return_caller(struct mc2_cell *cell, struct mc2_caller *call
 // Returns  MC2_DONE; MC2_REFUSED: the cell isn't open, or a caller is still out; MC2_BUSY, see mc2_result.h.
 uint32_t mc2_handle_close_cell(struct mc2_cell *cell);
 
-// Reads one step of the log of a closed cell. Both indices count from 0; an event has one step for each of its 1 to 8 calls.
-// Returns  MC2_DONE: *step is written; MC2_NOT_FOUND: no such step, the cell isn't closed, or its log isn't kept.
+// Reads one step of the log of a closed cell, as mc2_cell_read_step.
 uint32_t mc2_handle_read_step(struct mc2_cell *cell, size_t event, size_t index, struct mc2_logged_step *step);
 
-// Reopens a closed cell on its object, behind either lock, for 1 to 64 CPUs. The log continues with the room that was left. [heap]
-// Returns  MC2_DONE; MC2_REFUSED: the cell isn't closed; MC2_BAD_PARAM, MC2_NO_MEMORY: it is still closed, as before.
+// Reopens a closed cell on its object, as mc2_cell_reopen. [heap]
 uint32_t mc2_handle_reopen_cell(struct mc2_cell *cell, uint32_t lock, uint32_t cpus);
 
-// Frees the log of a closed cell. From then on its log isn't kept: it can't be read, and has room for 2^64 - 1 events. [heap]
-// Returns  MC2_DONE; MC2_REFUSED: the cell isn't closed.
+// Frees the log of a closed cell, as mc2_cell_drop_log. [heap]
 uint32_t mc2_handle_drop_log(struct mc2_cell *cell);
 
 // ---- The lock, one step at a time
