@@ -229,8 +229,8 @@ static inline uint32_t mc2_apply(struct mc2_caller *caller, const struct mc2_cal
 
 // Releases the lock.
 // Returns  MC2_DONE; MC2_REFUSED: the caller doesn't hold the lock.
-// Context  An MCS lock may wait for a successor that has entered the queue and hasn't linked itself yet; a ticket lock doesn't wait.
-//          Interrupt handlers may call it, with a caller of their own.
+// Context  A ticket lock doesn't wait. An MCS lock waits, as mc2_acquire does, if a successor has entered the queue and hasn't linked
+//          itself yet. Interrupt handlers may call it, with a caller of their own.
 // Ordering Release: the next holder sees everything that was done before.
 static inline uint32_t mc2_release(struct mc2_caller *caller) {
     for (uint64_t failed = 0;;) {

@@ -11,7 +11,7 @@ enum mc2_result {
 
     // The caller is in line and its turn hasn't come: pause, then call again.
     MC2_AGAIN = 1,
-    // The caller holds the lock: it found the lock free without a look, or by a look.
+    // The caller holds the lock: it entered an empty MCS queue, without a look; or a look showed that its turn has come.
     MC2_ACQUIRED = 2,
     MC2_ACQUIRED_BY_LOOK = 3,
     // The lock is released, and the caller is idle.
@@ -47,12 +47,13 @@ enum mc2_result {
     MC2_BAD_STEP = 37,
     // Two CPUs were inside one lock at the same time.
     MC2_MIXED = 38,
-    // The function that writes the record failed. The record may have been written in part.
+    // Writing the record failed. It may have been written in part.
     MC2_WRITE_FAILED = 39
 };
 
-// Returns a short English text for a result, such as "out of memory". The text is constant; don't free it.
-static inline const char *mc2_result_text(int result) {
+// Returns a short English text for a result, such as "out of memory". The text is constant; don't free it. `long long` takes each
+// type of result without a cast.
+static inline const char *mc2_result_text(long long result) {
     static const char *const cells[] = {"done", "in line, call again", "acquired", "acquired by a look", "released",
         "not allowed in this state", "busy", "one step done", "the log is full", "no such call or step", "out of memory",
         "an argument is out of range", "done, the lock is still held", "the log is full, the lock is still held"};

@@ -21,7 +21,7 @@ struct worker {
 static void must(uint32_t result, uint32_t wanted, const char *what) {
     if (result == wanted)
         return;
-    fprintf(stderr, "c_cells: %s: %s\n", what, mc2_result_text((int)result));
+    fprintf(stderr, "c_cells: %s: %s\n", what, mc2_result_text(result));
     exit(result == MC2_NO_MEMORY ? 3 : 1);
 }
 

@@ -18,7 +18,7 @@ static void *run(void *caller) {
     if (!failed)
         failed = mc2_queue_deq(caller, &reply);
     if (failed)
-        fprintf(stderr, "CPU %u: %s\n", (unsigned)cpu, mc2_result_text((int)failed));
+        fprintf(stderr, "CPU %u: %s\n", (unsigned)cpu, mc2_result_text(failed));
     else
         printf("CPU %u dequeued thread %u\n", (unsigned)cpu, (unsigned)reply.number);
     return failed ? caller : NULL;

@@ -28,7 +28,7 @@ static bool is_dropped;
 static void must(uint32_t result, uint32_t wanted, const char *what) {
     if (result == wanted)
         return;
-    fprintf(stderr, "reopened: %s: %s\n", what, mc2_result_text((int)result));
+    fprintf(stderr, "reopened: %s: %s\n", what, mc2_result_text(result));
     exit(result == MC2_NO_MEMORY ? 3 : 1);
 }
 
