@@ -10,12 +10,13 @@
 //     mc2_cell_free(&cell, NULL, 0);
 //
 // `tools/develop/library cells --unproved` compiles the library in a minute or two, to .unproved/libcells.a. Without the last word
-// it proves the library, to crates/cells/out/libcells.a. Link either with the kit's heap (malloc and free):
+// it proves the library, to crates/cells/out/libcells.a. Link either with the heap of the Rattle kit, which uses malloc and free;
+// KIT is the kit's folder:
 //
 //     gcc -Iinclude program.c .unproved/libcells.a KIT/c/liblibc_c.a -pthread
 //
 // See also  mc2_by_name.h: each call as a function of its own. mc2_cells_record.h: writes the record that `mc2 audit` judges.
-//           mc2_cells_raw.h: for wait loops of your own. mc2_cells.hpp: C++. docs/IN_A_KERNEL.md: kernels.
+//           mc2_cells_raw.h, mc2_wait.h: for wait loops of your own. mc2_cells.hpp: classes for C++. docs/IN_A_KERNEL.md: kernels.
 //
 // CALLER OBLIGATIONS (not checked)
 //
@@ -146,7 +147,7 @@ static inline uint32_t mc2_caller_close(struct mc2_cell *cell, struct mc2_caller
 // ---- Open, close, free
 
 // Frees a cell, open or closed, and those of `callers` that are idle. Other callers still work: free each with mc2_caller_free once
-// it is idle. Does nothing if all this is freed already.
+// it is idle. A cell or caller that is freed already is skipped.
 //   count    the number of callers in `callers`, which may be NULL if it is 0
 // Context  Uses the heap. Not in an interrupt handler.
 static inline void mc2_cell_free(struct mc2_cell *cell, struct mc2_caller *callers, uint32_t count) {
@@ -218,7 +219,7 @@ static inline uint32_t mc2_try_acquire(struct mc2_caller *caller) {
     return result == MC2_ACQUIRED_BY_LOOK ? (uint32_t)MC2_DONE : result;
 }
 
-// Performs one call as one event of the log. The caller holds the lock.
+// Performs one call as one event of the log. The caller must hold the lock.
 //   call     a call of the object's kind; a call of another kind is an event with the reply MC2_BADCALL
 //   reply    out, on MC2_DONE
 // Returns  MC2_DONE; MC2_LOG_FULL, MC2_NOT_FOUND (no such call): nothing was done; MC2_REFUSED: the caller doesn't hold the lock.
@@ -295,7 +296,8 @@ static inline uint32_t mc2_cell_call(struct mc2_caller *caller, const struct mc2
 //   replies  out, on MC2_DONE: one for each call that was performed; those past the count are unspecified
 // Returns  as mc2_cell_call; MC2_REFUSED also for 0 or more than 8 calls; MC2_NOT_FOUND: one call doesn't exist, and none was
 //          performed.
-// Context  and Ordering as mc2_cell_call.
+// Context  as mc2_cell_call
+// Ordering as mc2_cell_call
 static inline uint32_t mc2_cell_batch(struct mc2_caller *caller, const struct mc2_batch *batch, struct mc2_replies *replies) {
     uint64_t *looks = mc2_priv_begin(caller);
     uint32_t result = MC2_IRQ_OFF(mc2_poll_batch(caller, batch, replies, looks));
@@ -312,7 +314,7 @@ static inline uint32_t mc2_cell_try_call(struct mc2_caller *caller, const struct
 }
 
 // Returns the looks of the caller's last mc2_acquire, mc2_cell_call, mc2_cell_batch or call by name: how often it read whether its
-// turn had come. A record has this number.
+// turn had come. Recorders note this number.
 static inline uint64_t mc2_caller_looks(const struct mc2_caller *caller) { return caller->looks; }
 
 // ---- The log of a closed cell

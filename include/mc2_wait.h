@@ -1,9 +1,9 @@
 // mc2_wait.h - how callers of a cell wait. mc2_cells.h includes it. Nothing here is proved.
 //
-// A FIFO lock is handed on only as fast as each waiter is scheduled, so there should be no more waiters in line than processors. A
-// waiter spins for 120 looks, and then sleeps between two looks: a sleeping waiter shows that there are too many. While one sleeps,
-// callers that come later are throttled: each sleeps once before it joins the line. No one is woken: each sleep ends by itself.
-// The locks of the library for Rattle wait in the same way (crates/word_rule/src/resting.rt).
+// A FIFO lock is handed on only as fast as each waiter is scheduled, so there should be no more waiters in line than processors.
+// Between its looks a waiter spins, and from the 120th failed look on it sleeps: this shows that there are more waiters than
+// processors. While a waiter sleeps, callers that come later are throttled: each sleeps once before it joins the line. No one is
+// woken: each sleep ends by itself. The locks for Rattle wait in the same way (crates/word_rule/src/resting.rt).
 //
 // To wait in another way, define MC2_PAUSE or MC2_USLEEP before this header.
 #ifndef MC2_WAIT_H
