@@ -191,7 +191,7 @@ def main():
             wrong = judge_by_rust(given.program, named, files)
         else:
             wrong = judge(given.how, given.program, named, files)
-    print(*wrong, f"{len(named)} texts, of which {len(wrong)} are told otherwise", sep="\n")
+    print(*wrong, f"{len(named)} texts, of which {len(wrong)} are judged otherwise", sep="\n")
     return 1 if wrong else 0
 
 
