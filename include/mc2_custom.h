@@ -14,12 +14,13 @@
 //
 // CALLER OBLIGATIONS (not checked)
 //
-//   1. `text` points to `length` bytes, `right` to `objects` numbers, `order` to `capacity` places, and each other pointer to one
-//      struct. During the call no other thread writes `text` and `right`, or touches the rest.
+//   1. `text` points to `length` bytes, `right` to `objects` numbers, `models` to `count` models, `order` to `capacity` places, and
+//      each other pointer to one struct. During the call no other thread writes `text`, `right` and `models`, or touches the rest.
 //   2. None of them overlaps another: no byte of one is a byte of another.
-//   3. No pointer is NULL, even if its size is 0. All but `text` are aligned to 8 bytes, as C aligns them.
-//   4. What a size counts has at most PTRDIFF_MAX bytes, as every array in C. The places `at`, `object` and `log` in the text may be
-//      any numbers.
+//   3. No pointer is NULL, even if its size is 0, unless its comment allows it. All but `text` are aligned to 8 bytes, as C aligns
+//      them.
+//   4. All that a pointer points to has at most PTRDIFF_MAX bytes, as every array in C. The bytes `at`, `object` and `log` of the
+//      text may be any numbers.
 //   5. A model keeps to what struct mc2_model says.
 //
 // WHAT IS PROVED
@@ -28,20 +29,22 @@
 //   the first right[x] steps of log x are right by it, each after those before it, and the next one, if there is one, isn't. Then
 //   - mc2_custom_audit reports that the record is sound if and only if it is sound by that model, and otherwise its first fault;
 //   - mc2_custom_merge also reports an order of a sound record, or a cycle that excludes an order.
-//   Both hold for every model. mc2_custom_line reports exactly what the line is. mc2_custom_kernel counts by a model that is in the
-//   library, of the kinds of objects that mc2 has.
+//   Both hold for every model. mc2_custom_line reports exactly what the line is. The counts of mc2_custom_kernel are those of the
+//   library's own model, of the kinds of objects that mc2 has.
 //
 //   Not proved: the inline functions here. So it isn't proved that your counts are your model's: a count that is too small makes a
 //   log unsound, and one that is too large may hide a wrong step.
 //
 // CONTEXT
 //
-//   Any number of threads may call the functions at the same time: nothing is kept between two calls. A call waits for nothing
-//   but the heap and your models. mc2_custom_line doesn't use the heap. mc2_custom_audit and mc2_custom_merge have allocated, at
-//   any time, at most 4 bytes for each byte of the text, 8 for each count and 1,300,000 more; mc2_custom_kernel 300,000. Of a large
-//   record they took less than the text has bytes. All is freed before the call returns. Bytes of stack, at most:
-//   mc2_custom_audit 12,288, mc2_custom_merge 12,288, mc2_custom_line 6,144, mc2_custom_kernel 7,168.
-//   tests/c/judge holds the calls to these figures, which aren't proved.
+//   Any number of threads may call the functions at the same time, if the models allow it: nothing is kept between two calls. All
+//   but mc2_custom_line and mc2_custom_is use the heap. Otherwise they don't block, unless a model does.
+//   - Memory, at most: mc2_custom_audit and mc2_custom_merge 4 bytes for each byte of the text, 8 for each count and 1,300,000
+//     more; mc2_custom_kernel 300,000. All of it is freed before the call returns. For large records they took less memory than the
+//     text has bytes.
+//   - Bytes of stack, at most:
+//     mc2_custom_audit 12,288, mc2_custom_merge 12,288, mc2_custom_line 6,144, mc2_custom_kernel 7,168.
+//   These figures aren't proved; tests/c/judge checks calls against them.
 #ifndef MC2_CUSTOM_H
 #define MC2_CUSTOM_H
 

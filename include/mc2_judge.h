@@ -24,14 +24,14 @@
 //
 // WHAT IS PROVED
 //
-//   Both functions, by the contracts of crates/judge/README.md. The figures of stack and memory below aren't proved, but
-//   tools/check/metal and tests/c/judge hold the calls to them.
+//   Both functions, by the contracts of crates/judge/README.md. The figures of stack and memory below aren't proved;
+//   tools/check/metal and tests/c/judge check calls against them.
 //
 // CONTEXT
 //
-//   Any number of threads may call the functions at the same time: nothing is kept between two calls. A call waits for nothing
-//   but the heap, which it uses. It takes at most 6,144 bytes of stack. It has allocated, at any time, at most 4 bytes for each
-//   byte of the text and 1,100,000 more, and frees all of it before it returns.
+//   Any number of threads may call the functions at the same time: nothing is kept between two calls. They use the heap, and
+//   otherwise don't block. A call takes at most 6,144 bytes of stack, and at most 4 bytes of memory for each byte of the text and
+//   1,100,000 more, all of which it frees before it returns.
 #ifndef MC2_JUDGE_H
 #define MC2_JUDGE_H
 
@@ -69,7 +69,7 @@ enum mc2_verdict {
 
     // ---- Other reports
 
-    // The record is sound, but its entries have no order: the number of entries, in `order`, that wait for one another in a circle.
+    // The record is sound, but its entries have no order: the number of entries, all in `order`, that wait for one another.
     MC2_CYCLE = 7,
     // The text isn't a record: the first line, from 1, that can't follow the lines before it.
     MC2_BAD_LINE = 8,
@@ -97,7 +97,7 @@ struct mc2_entry_id {
 void mc2_audit(const uint8_t *text, size_t length, struct mc2_report *report);
 
 // Judges a record, and puts the entries of a sound one in one order. Each CPU's entries are in the order of its transcript, and
-// those with an event on an object are in the order of its log. Of several that may be next the lowest CPU's entry is.
+// those with an event on an object are in the order of its log. Where several entries could be next, the lowest CPU's is.
 //   order, capacity   the places that receive the order or the cycle; the others aren't written. A record has at most 640,000
 //                     entries.
 // Returns  in `report`: as mc2_audit; MC2_CYCLE; MC2_NO_ROOM.

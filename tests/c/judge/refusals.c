@@ -173,8 +173,15 @@ static void check_capacity(void) {
     free(whole.order);
 }
 
-/* Counts the right steps of a record 3. */
+/* Counts the right steps of a record 3. mc2_custom_line takes no memory. */
 static void count_steps(void) {
+    struct mc2_custom_line line;
+    heap.asked = 0;
+    for (size_t at = 0; at < text.length; at = (size_t)line.next) {
+        line.next = text.length;
+        mc2_custom_line(text.bytes, text.length, at, &line);
+    }
+    CHECK(heap.asked == 0);
     heap.most = 0;
     mc2_priv_ask_all(text.bytes, text.length, models, MODELS, &logs);
     CHECK(heap.most <= MOST_OF_KERNEL);
