@@ -42,7 +42,7 @@
 //   - Memory, at most: mc2_custom_audit and mc2_custom_merge 4 bytes for each byte of the text, 8 for each count and 1,300,000
 //     more; mc2_custom_kernel 300,000. All of it is freed before the call returns. For large records they took less memory than the
 //     text has bytes.
-//   - Bytes of stack, at most:
+//   - Bytes of stack in the proved library, at most (unproved ones take more):
 //     mc2_custom_audit 12,288, mc2_custom_merge 12,288, mc2_custom_line 6,144, mc2_custom_kernel 7,168.
 //   These figures aren't proved; tests/c/judge checks calls against them.
 #ifndef MC2_CUSTOM_H

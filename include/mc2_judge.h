@@ -30,8 +30,8 @@
 // CONTEXT
 //
 //   Any number of threads may call the functions at the same time: nothing is kept between two calls. They use the heap, and
-//   otherwise don't block. A call takes at most 6,144 bytes of stack, and at most 4 bytes of memory for each byte of the text and
-//   1,100,000 more, all of which it frees before it returns.
+//   otherwise don't block. A call takes at most 4 bytes of memory for each byte of the text and 1,100,000 more, all of which it
+//   frees before it returns. In the proved library it takes at most 6,144 bytes of stack; unproved ones take more.
 #ifndef MC2_JUDGE_H
 #define MC2_JUDGE_H
 
