@@ -98,8 +98,8 @@ void mc2_audit(const uint8_t *text, size_t length, struct mc2_report *report);
 
 // Judges a record, and puts the entries of a sound one in one order. Each CPU's entries are in the order of its transcript, and
 // those with an event on an object are in the order of its log. Where several entries could be next, the lowest CPU's is.
-//   order, capacity   the places that receive the order or the cycle; the others aren't written. A record has at most 640,000
-//                     entries.
+//   order, capacity   the places that receive the order or the cycle; the others aren't written. A record 1 or 2 has at most
+//                     640,000 entries.
 // Returns  in `report`: as mc2_audit; MC2_CYCLE; MC2_NO_ROOM.
 void mc2_merge(const uint8_t *text, size_t length, struct mc2_entry_id *order, size_t capacity, struct mc2_report *report);
 
