@@ -1,36 +1,50 @@
-/* Judging records of objects of your own, from C or C++, by the static library libjudge.a. docs/FORMATS.md has the form of such
-   a record, a record 3. mc2_judge.h says how a program links the library, and has the verdicts that are told.
-
-   The library knows no kind of object of yours. It knows what a record is, who did what, and in which order. A *model* of yours
-   says which replies are right. The library never calls it: you ask it about the steps of each log, from the first on, and hand
-   over one number for each object, how many steps the model called right. The second half of this header does that. So an
-   object is judged in three parts:
-
-       struct mc2_model models[] = {{"counter", open_counter, step_counter, close_counter, NULL}};
-       static struct mc2_custom_logs asked;
-       mc2_custom_judge(text, length, models, 1, &asked, NULL, 0, &told);
-
-   What is proved. Say that `right` has the counts of a model: the first right[x] steps of log x are right by it, each after
-   those before it, and the next one isn't, if there is one. Then mc2_custom_audit tells that the record is sound just if it is
-   sound by that model, and else its first fault by that model. mc2_custom_merge tells one order of a sound record, or a cycle that
-   excludes one. And mc2_custom_line tells of the line what stands there. This holds of every model, whatever it says. A model of
-   the kinds that mc2 has is in the library, and its counts are proved too: mc2_custom_kernel.
-
-   What isn't proved. The half that is inline here isn't, so nor is that your counts are the model's: too small a count makes a
-   log unsound, and too large a one may hide a wrong step. Nor is mc2_custom_witness.h, which finds a few steps that show a wrong
-   one to be wrong.
-
-   It holds if the caller gives what is said here:
-
-   - `text` is `length` bytes, which nobody writes to meanwhile. `right` is `objects` numbers, likewise. `room` is `turns`
-     places, `line` and `told` one each, which nobody else touches meanwhile.
-   - None of them overlaps another: no byte of one is a byte of another.
-   - No pointer is NULL, not even where it points to nothing. All but `text` are aligned as C aligns them, to 8 bytes.
-   - Each size is right, 0 too, if what it counts has at most PTRDIFF_MAX bytes. `at` may be any number.
-
-   The functions keep nothing between two calls, so several threads may call them at once. mc2_custom_audit was seen to take at
-   most 12,288 bytes of stack, mc2_custom_merge 12,288, mc2_custom_line 6,144 and mc2_custom_kernel 7,168, as tests/c/judge checks.
-   Beside the text the first two took less memory than the text has bytes, where the text was large. None of this is proved. */
+// mc2_custom.h - judges records of objects of your own, by models that you write, for C11 and C++17. docs/FORMATS.md has the form
+// of these records (records 3); mc2_judge.h says how to link the library, and has the verdicts.
+//
+// The library knows what a record is, and which CPU did what, in which order. It doesn't know your objects. For each kind of them
+// you write a *model* (struct mc2_model), which says of each step whether it is right. mc2_custom_judge asks the models about each
+// log, from its first step on, and hands the library one number for each object: how many steps are right. The library never
+// calls a model.
+//
+//     struct mc2_model models[] = {{"counter", open_counter, step_counter, close_counter, NULL}};
+//     static struct mc2_custom_logs logs;
+//     mc2_custom_judge(text, length, models, 1, &logs, NULL, 0, &report);
+//
+// See also  mc2_custom_witness.h: explains a wrong step. mc2_custom_note.h: writes these records. examples/custom: models.
+//
+// CALLER OBLIGATIONS (not checked)
+//
+//   1. `text` points to `length` bytes, `right` to `objects` numbers, `models` to `count` models, `order` to `capacity` places, and
+//      each other pointer to one struct. During the call no other thread writes `text`, `right` and `models`, or touches the rest.
+//   2. None of them overlaps another: no byte of one is a byte of another.
+//   3. No pointer is NULL, even if its size is 0, unless its comment allows it. All but `text` are aligned to 8 bytes, as C aligns
+//      them.
+//   4. All that a pointer points to has at most PTRDIFF_MAX bytes, as every array in C. The bytes `at`, `object` and `log` of the
+//      text may be any numbers.
+//   5. A model keeps to what struct mc2_model says.
+//
+// WHAT IS PROVED
+//
+//   The four functions of the library, by the contracts of crates/judge/README.md. Suppose that `right` has the counts of a model:
+//   the first right[x] steps of log x are right by it, each after those before it, and the next one, if there is one, isn't. Then
+//   - mc2_custom_audit reports that the record is sound if and only if it is sound by that model, and otherwise its first fault;
+//   - mc2_custom_merge also reports an order of a sound record, or a cycle that excludes an order.
+//   Both hold for every model. mc2_custom_line reports exactly what the line is. The counts of mc2_custom_kernel are those of the
+//   library's own model, of the kinds of objects that mc2 has.
+//
+//   Not proved: the inline functions here. So it isn't proved that your counts are your model's: a count that is too small makes a
+//   log unsound, and one that is too large may hide a wrong step.
+//
+// CONTEXT
+//
+//   Any number of threads may call the functions at the same time, if the models allow it: nothing is kept between two calls. All
+//   but mc2_custom_line and mc2_custom_is use the heap. Otherwise they don't block, unless a model does.
+//   - Memory, at most: mc2_custom_audit and mc2_custom_merge 4 bytes for each byte of the text, 8 for each count and 1,300,000
+//     more; mc2_custom_kernel 300,000. All of it is freed before the call returns. For large records they took less memory than the
+//     text has bytes.
+//   - Bytes of stack in the proved library, at most (unproved ones take more):
+//     mc2_custom_audit 12,288, mc2_custom_merge 12,288, mc2_custom_line 6,144, mc2_custom_kernel 7,168.
+//   These figures aren't proved; tests/c/judge checks calls against them.
 #ifndef MC2_CUSTOM_H
 #define MC2_CUSTOM_H
 
@@ -41,8 +55,8 @@
 extern "C" {
 #endif
 
-/* The limits of a record 3: CPUs, objects, calls of an event, numbers behind a word, numbers of an object, words that refuse,
-   and letters of a word. A log has at most 4,294,967,295 events, and so has a transcript entries. */
+// The limits of a record 3: CPUs, objects, calls of an event, numbers after a word, numbers of an object, words that refuse, and
+// letters of a word. A log has at most 4,294,967,295 events, and a transcript as many entries.
 enum {
     MC2_CUSTOM_CPUS = 256,
     MC2_CUSTOM_OBJECTS = 256,
@@ -53,105 +67,101 @@ enum {
     MC2_CUSTOM_LETTERS = 16
 };
 
-/* What is told beside enum mc2_verdict. */
+// The kinds of reports other than enum mc2_verdict.
 enum {
-    /* From mc2_custom_judge: the text is a record. No model has the object's kind, or the model takes other numbers, or it got no
-       memory: the object. From mc2_custom_kernel: no line of such an object begins there, or no head of a log. */
+    // From mc2_custom_judge: the text is a record, but no model has the object's kind, or its model refused the object's numbers or
+    // had no memory: the object. From mc2_custom_kernel: no line of an object of mc2's kinds begins there, or no head of a log.
     MC2_NO_MODEL = 12,
-    /* From mc2_custom_kernel: how many steps of the log are right. */
+    // From mc2_custom_kernel: the number of right steps.
     MC2_CUSTOM_COUNTED = 13
 };
 
-/* What a line is. */
 enum mc2_custom_line_kind {
-    /* No line begins there, or it has no end. Nothing else is told. */
+    // No line begins there, or it has no end.
     MC2_CUSTOM_NONE = 0,
-    /* object NAME LOCK EVENTS KIND NUMBERS */
+    // object NAME LOCK EVENTS KIND NUMBERS
     MC2_CUSTOM_OBJECT = 1,
-    /* log NAME K */
+    // log NAME K
     MC2_CUSTOM_LOG = 2,
-    /* CPU CALL = REPLY ; CALL = REPLY */
+    // CPU CALL = REPLY ; CALL = REPLY
     MC2_CUSTOM_EVENT = 3,
-    /* Any other line. Only `next` is told. */
+    // Any other line.
     MC2_CUSTOM_OTHER = 4
 };
 
-/* A call or a reply. */
+// A call or a reply: a word, with zeros after it if it has fewer than 16 letters, and `count` numbers.
 struct mc2_custom_term {
-    /* Its word, with zeros behind it: a word of 16 letters has none. */
     uint8_t word[16];
-    /* The numbers behind the word, of which there are `count`. */
     uint64_t numbers[6];
     uint64_t count;
 };
 
-/* A call, and the reply to it. */
+// A call, and the reply to it.
 struct mc2_custom_step {
     struct mc2_custom_term call, reply;
 };
 
-/* A line. `next` is told of each kind but MC2_CUSTOM_NONE, and each other field of the kinds that it names. What isn't told stays
-   as it was. */
+// A line. Each field is written for the kinds of lines that its comment names, and otherwise unchanged.
 struct mc2_custom_line {
-    /* One of mc2_custom_line_kind. */
+    // Always: one of mc2_custom_line_kind.
     uint32_t kind;
-    /* Of an event: the CPU. */
+    // Event: the CPU.
     uint32_t cpu;
-    /* Where the line behind this one begins, if there is one: the byte behind the line end. */
+    // All kinds but MC2_CUSTOM_NONE: where the next line begins, if there is one.
     uint64_t next;
-    /* Of an object EVENTS, the most events of its log; of a log K, how many lines of events follow. */
+    // Object: EVENTS, the most events of its log. Log: K, the number of lines of events that follow.
     uint64_t limit;
-    /* How many numbers an object has, or an event steps. */
+    // Object: how many numbers it has. Event: how many steps.
     uint64_t count;
-    /* Of an object and of a log: its name, with zeros behind it. */
+    // Object and log: the name, with zeros after it.
     uint8_t name[16];
-    /* Of an object: its kind, likewise. */
+    // Object: the kind, with zeros after it; and the numbers.
     uint8_t object_kind[16];
     uint64_t numbers[32];
+    // Event: the steps.
     struct mc2_custom_step steps[8];
 };
 
-/* Tells of the line that begins at byte `at`. It asks for no record: what stands before that byte, or behind the line, is
-   nothing to it. */
+// Reads the line that begins at byte `at`. The rest of the text doesn't matter, and needn't be a record.
 void mc2_custom_line(const uint8_t *text, size_t length, size_t at, struct mc2_custom_line *line);
 
-/* A model of the four kinds that mc2 has, queue, pool, console and sched: tells how many steps of the log whose head begins at
-   byte `log`, from the first on, are as the object answers whose line begins at byte `object`. */
-void mc2_custom_kernel(const uint8_t *text, size_t length, size_t object, size_t log, struct mc2_report *told);
+// Counts how many steps of a log, from the first on, are right for an object of the kinds that mc2 has: queue, pool, console, sched.
+//   object, log   the bytes where the object's line and the head of its log begin
+// Returns  in `report`: MC2_CUSTOM_COUNTED; MC2_NO_MODEL; MC2_OUT_OF_MEMORY.
+void mc2_custom_kernel(const uint8_t *text, size_t length, size_t object, size_t log, struct mc2_report *report);
 
-/* Tells whether the record of this text is sound, or else its first fault, if of each log so many steps are right as is said.
-   The next step is then the wrong one, if there is one. */
-void mc2_custom_audit(const uint8_t *text, size_t length, const uint64_t *right, size_t objects, struct mc2_report *told);
+// Judges a record, given how many steps of each log are right. The next step of a log, if there is one, is then wrong.
+// Returns  in `report`: as mc2_audit; MC2_WRONG_COUNTS.
+void mc2_custom_audit(const uint8_t *text, size_t length, const uint64_t *right, size_t objects, struct mc2_report *report);
 
-/* The same, and of a sound record one order of its entries, as mc2_merge tells it. */
-void mc2_custom_merge(const uint8_t *text, size_t length, const uint64_t *right, size_t objects, struct mc2_entry_id *room,
-                   size_t turns, struct mc2_report *told);
+// The same, and puts the entries of a sound record in one order, as mc2_merge does.
+// Returns  in `report`: as mc2_merge; MC2_WRONG_COUNTS.
+void mc2_custom_merge(const uint8_t *text, size_t length, const uint64_t *right, size_t objects, struct mc2_entry_id *order,
+                      size_t capacity, struct mc2_report *report);
 
 #ifdef __cplusplus
 }
 #endif
 
-/* ---- Your part: a model for each kind of object.
-
-   A model is a state that is told what was called and what was answered, and says whether the object may have answered so. It
-   may let many answers pass, or none. What is right leads it to its next state. One thing is asked of it: what it says hangs on
-   the numbers of its opening and on the steps that it was told since, and on nothing else. If call and reply don't tell the
-   next state, let the model keep all states that are possible, and call a step wrong that leaves none. It isn't told which CPU
-   has called: if that matters, as of who gives a lock or a reference back, let the call have the CPU as one of its numbers. */
+// A model of one kind of object: a state that gets each call with its reply, and says whether the object may have replied so. It
+// may allow several replies, or none. A right step leads to the next state.
+//
+// The model must depend on nothing but the numbers that it was opened with and the steps that it got since. If call and reply don't
+// determine the next state, keep all states that are possible, and call a step wrong that leaves none. The model doesn't get the
+// CPU: if it matters which CPU called, for example which one releases a lock, make the CPU a number of the call.
 struct mc2_model {
-    /* The word that a record has for this kind of object. */
+    // The word that a record has for this kind of object.
     const char *kind;
-    /* The state at the first event, or NULL: no object has these numbers, or there is no memory. */
+    // Returns the state before the first event, or NULL: no object has these numbers, or there is no memory.
     void *(*open)(const uint64_t *numbers, uint64_t count);
-    /* NULL if the step is right, and else why it isn't, in a few words of yours. The model is closed after a wrong step. */
+    // Returns NULL if the step is right, and otherwise why it isn't, in a few words. After a wrong step the model is closed.
     const char *(*step)(void *state, const struct mc2_custom_step *step);
     void (*close)(void *state);
-    /* May be NULL. Prints into `out`, of `room` bytes with the 0 at the end, what would have been right in place of the reply.
-       */
+    // Prints a right reply to the call into `out`, which has `room` bytes with the final 0. May be NULL.
     void (*says)(void *state, const struct mc2_custom_term *call, char *out, size_t room);
 };
 
-/* Whether that is the word. */
+// Internal: whether that is the word.
 static inline bool mc2_priv_is_word(const uint8_t *padded, const char *word) {
     size_t same = 0;
     while (same < MC2_CUSTOM_LETTERS && word[same] && padded[same] == (uint8_t)word[same])
@@ -159,12 +169,12 @@ static inline bool mc2_priv_is_word(const uint8_t *padded, const char *word) {
     return !word[same] && (same == MC2_CUSTOM_LETTERS || !padded[same]);
 }
 
-/* Whether it is that word, with so many numbers. */
-static inline bool mc2_custom_is(const struct mc2_custom_term *said, const char *word, uint64_t numbers) {
-    return said->count == numbers && mc2_priv_is_word(said->word, word);
+// Returns whether a call or a reply has this word and this many numbers.
+static inline bool mc2_custom_is(const struct mc2_custom_term *term, const char *word, uint64_t numbers) {
+    return term->count == numbers && mc2_priv_is_word(term->word, word);
 }
 
-/* Where the lines of the objects and of their logs begin, and how many steps of each log are right. */
+// For each object: the bytes where its line and the head of its log begin, and how many steps of the log are right.
 struct mc2_custom_logs {
     size_t objects;
     uint64_t object[MC2_CUSTOM_OBJECTS];
@@ -172,143 +182,118 @@ struct mc2_custom_logs {
     uint64_t right[MC2_CUSTOM_OBJECTS];
 };
 
-/* Where the line begins that many lines further on. */
+// Internal: the byte where the line begins that is this many lines further on.
 static inline size_t mc2_priv_skip_lines(const uint8_t *text, size_t length, size_t at, uint64_t lines) {
     while (lines > 0 && at < length)
         lines -= text[at++] == '\n';
     return at;
 }
 
-/* Finds the lines of the objects and of their logs. Of what is no record it finds a part of them, and the library refuses it.
-   */
-static inline void mc2_priv_find_logs(const uint8_t *text, size_t length, struct mc2_custom_logs *asked) {
+// Internal: finds the lines of the objects and of their logs. If the text isn't a record it finds a part of them, and the library
+// refuses the text.
+static inline void mc2_priv_find_logs(const uint8_t *text, size_t length, struct mc2_custom_logs *logs) {
     struct mc2_custom_line line;
-    size_t at = 0, logs = 0;
-    asked->objects = 0;
+    size_t at = 0, found = 0;
+    logs->objects = 0;
     mc2_custom_line(text, length, at, &line);
-    while (line.kind != MC2_CUSTOM_NONE && (logs == 0 || line.kind == MC2_CUSTOM_LOG)) {
-        if (line.kind == MC2_CUSTOM_OBJECT && asked->objects < MC2_CUSTOM_OBJECTS) {
-            asked->log[asked->objects] = length;
-            asked->object[asked->objects++] = at;
+    while (line.kind != MC2_CUSTOM_NONE && (found == 0 || line.kind == MC2_CUSTOM_LOG)) {
+        if (line.kind == MC2_CUSTOM_OBJECT && logs->objects < MC2_CUSTOM_OBJECTS) {
+            logs->log[logs->objects] = length;
+            logs->object[logs->objects++] = at;
         }
-        if (line.kind == MC2_CUSTOM_LOG && logs < asked->objects)
-            asked->log[logs] = at;
-        logs += line.kind == MC2_CUSTOM_LOG;
+        if (line.kind == MC2_CUSTOM_LOG && found < logs->objects)
+            logs->log[found] = at;
+        found += line.kind == MC2_CUSTOM_LOG;
         at = mc2_priv_skip_lines(text, length, (size_t)line.next, line.kind == MC2_CUSTOM_LOG ? line.limit : 0);
         mc2_custom_line(text, length, at, &line);
     }
 }
 
-/* The model of the object whose line that is, or NULL. */
+// Internal: the model of the object that has this line, or NULL.
 static inline const struct mc2_model *mc2_priv_model_of(const struct mc2_custom_line *object, const struct mc2_model *models,
-                                                    size_t count) {
+                                                        size_t count) {
     size_t at = 0;
     while (at < count && !mc2_priv_is_word(object->object_kind, models[at].kind))
         at++;
     return at < count ? &models[at] : NULL;
 }
 
-/* How many steps of the event are right, from the first on. */
-static inline uint64_t mc2_priv_count_event_steps(const struct mc2_custom_line *event, const struct mc2_model *model, void *state) {
-    uint64_t right = 0;
-    while (right < event->count && !model->step(state, &event->steps[right]))
-        right++;
-    return right;
-}
-
-/* How many steps of the log are right, from the first on. */
-static inline uint64_t mc2_priv_count_log_steps(const uint8_t *text, size_t length, size_t log, const struct mc2_model *model,
-                                     void *state) {
+// Internal: how many steps of the log are right, from the first on.
+static inline uint64_t mc2_priv_count_steps(const uint8_t *text, size_t length, size_t log, const struct mc2_model *model,
+                                            void *state) {
     struct mc2_custom_line line;
-    uint64_t right = 0, in_event = 0;
+    uint64_t right = 0;
     mc2_custom_line(text, length, log, &line);
-    bool goes_on = line.kind == MC2_CUSTOM_LOG;
-    while (goes_on) {
+    bool is_right = line.kind == MC2_CUSTOM_LOG;
+    while (is_right) {
         mc2_custom_line(text, length, (size_t)line.next, &line);
-        in_event = line.kind == MC2_CUSTOM_EVENT ? mc2_priv_count_event_steps(&line, model, state) : 0;
-        goes_on = line.kind == MC2_CUSTOM_EVENT && in_event == line.count;
-        right += in_event;
+        is_right = line.kind == MC2_CUSTOM_EVENT;
+        for (uint64_t at = 0; is_right && at < line.count; at++) {
+            is_right = !model->step(state, &line.steps[at]);
+            right += is_right;
+        }
     }
     return right;
 }
 
-/* Asks the library's model about one object's log, and says whether the object is of one of the kinds that mc2 has. */
-static inline bool mc2_priv_ask_kernel(const uint8_t *text, size_t length, struct mc2_custom_logs *asked, size_t object) {
-    struct mc2_report told;
-    mc2_custom_kernel(text, length, (size_t)asked->object[object], (size_t)asked->log[object], &told);
-    asked->right[object] = told.kind == MC2_CUSTOM_COUNTED ? told.first : 0;
-    return told.kind == MC2_CUSTOM_COUNTED;
-}
-
-/* Asks the models about one object's log, and the library if none has its kind; says whether there is a model. Logs may be
-   asked about at once, each on a thread of its own. */
+// Internal: counts the right steps of one object's log by its model, or by the library's if none has its kind. Returns whether
+// there is a model.
 static inline bool mc2_priv_ask(const uint8_t *text, size_t length, const struct mc2_model *models, size_t count,
-                               struct mc2_custom_logs *asked, size_t object) {
+                                struct mc2_custom_logs *logs, size_t object) {
     struct mc2_custom_line line;
-    mc2_custom_line(text, length, (size_t)asked->object[object], &line);
+    struct mc2_report report;
+    mc2_custom_line(text, length, (size_t)logs->object[object], &line);
     const struct mc2_model *model = mc2_priv_model_of(&line, models, count);
-    if (!model)
-        return mc2_priv_ask_kernel(text, length, asked, object);
+    if (!model) {
+        mc2_custom_kernel(text, length, (size_t)logs->object[object], (size_t)logs->log[object], &report);
+        logs->right[object] = report.kind == MC2_CUSTOM_COUNTED ? report.first : 0;
+        return report.kind == MC2_CUSTOM_COUNTED;
+    }
     void *state = model->open(line.numbers, line.count);
-    asked->right[object] = state ? mc2_priv_count_log_steps(text, length, (size_t)asked->log[object], model, state) : 0;
+    logs->right[object] = state ? mc2_priv_count_steps(text, length, (size_t)logs->log[object], model, state) : 0;
     if (state)
         model->close(state);
     return state != NULL;
 }
 
-/* Asks about the logs in turn, and returns how many have models, from the first on. */
+// Internal: counts the right steps of each log in turn. Returns the first object without a model, or the number of objects.
 static inline size_t mc2_priv_ask_all(const uint8_t *text, size_t length, const struct mc2_model *models, size_t count,
-                                     struct mc2_custom_logs *asked) {
+                                      struct mc2_custom_logs *logs) {
     size_t object = 0;
-    mc2_priv_find_logs(text, length, asked);
-    while (object < asked->objects && mc2_priv_ask(text, length, models, count, asked, object))
+    mc2_priv_find_logs(text, length, logs);
+    while (object < logs->objects && mc2_priv_ask(text, length, models, count, logs, object))
         object++;
     return object;
 }
 
-/* Judges the record by the models. With a room, which may not be NULL then, it tells one order too, as mc2_custom_merge does. */
+// Judges a record by `count` models, and by the library's for objects of the kinds that mc2 has, unless a model has that kind.
+//   logs              out: the objects, and the counts of right steps that the verdict rests on
+//   order, capacity   receive the order or the cycle, as in mc2_merge. `order` may be NULL: then none is made.
+// Returns  in `report`: as mc2_audit, and with `order` as mc2_merge; MC2_NO_MODEL.
 static inline void mc2_custom_judge(const uint8_t *text, size_t length, const struct mc2_model *models, size_t count,
-                                 struct mc2_custom_logs *asked, struct mc2_entry_id *room, size_t turns, struct mc2_report *told) {
-    size_t has_model = mc2_priv_ask_all(text, length, models, count, asked);
-    if (room && has_model == asked->objects)
-        mc2_custom_merge(text, length, asked->right, asked->objects, room, turns, told);
+                                    struct mc2_custom_logs *logs, struct mc2_entry_id *order, size_t capacity,
+                                    struct mc2_report *report) {
+    size_t with_model = mc2_priv_ask_all(text, length, models, count, logs);
+    if (order && with_model == logs->objects)
+        mc2_custom_merge(text, length, logs->right, logs->objects, order, capacity, report);
     else
-        mc2_custom_audit(text, length, asked->right, has_model, told);
-    if (has_model < asked->objects && told->kind != MC2_BAD_LINE && told->kind != MC2_OUT_OF_MEMORY) {
-        told->kind = MC2_NO_MODEL;
-        told->first = has_model;
-        told->second = told->third = 0;
+        mc2_custom_audit(text, length, logs->right, with_model, report);
+    if (with_model < logs->objects && report->kind != MC2_BAD_LINE && report->kind != MC2_OUT_OF_MEMORY) {
+        report->kind = MC2_NO_MODEL;
+        report->first = with_model;
+        report->second = report->third = 0;
     }
 }
 
-/* What crosses lies as the library has it. tests/c/judge compares its sources with this header, name by name. */
-#ifdef __cplusplus
-#define MC2_PRIV_HAS(type, field, place) static_assert(offsetof(struct type, field) == (place), "another layout")
-#define MC2_PRIV_HAS_SIZE(type, size) static_assert(sizeof(struct type) == (size), "another size")
-#else
-#define MC2_PRIV_HAS(type, field, place) _Static_assert(offsetof(struct type, field) == (place), "another layout")
-#define MC2_PRIV_HAS_SIZE(type, size) _Static_assert(sizeof(struct type) == (size), "another size")
-#endif
-
-MC2_PRIV_HAS(mc2_custom_term, word, 0);
-MC2_PRIV_HAS(mc2_custom_term, numbers, 16);
-MC2_PRIV_HAS(mc2_custom_term, count, 64);
-MC2_PRIV_HAS_SIZE(mc2_custom_term, 72);
-MC2_PRIV_HAS(mc2_custom_step, call, 0);
-MC2_PRIV_HAS(mc2_custom_step, reply, 72);
-MC2_PRIV_HAS_SIZE(mc2_custom_step, 144);
-MC2_PRIV_HAS(mc2_custom_line, kind, 0);
-MC2_PRIV_HAS(mc2_custom_line, cpu, 4);
-MC2_PRIV_HAS(mc2_custom_line, next, 8);
-MC2_PRIV_HAS(mc2_custom_line, limit, 16);
-MC2_PRIV_HAS(mc2_custom_line, count, 24);
-MC2_PRIV_HAS(mc2_custom_line, name, 32);
-MC2_PRIV_HAS(mc2_custom_line, object_kind, 48);
-MC2_PRIV_HAS(mc2_custom_line, numbers, 64);
-MC2_PRIV_HAS(mc2_custom_line, steps, 320);
-MC2_PRIV_HAS_SIZE(mc2_custom_line, 1472);
-
-#undef MC2_PRIV_HAS
-#undef MC2_PRIV_HAS_SIZE
+// Internal: the layouts, as in mc2_judge.h.
+MC2_PRIV_LAYOUT(MC2_PRIV_HAS(mc2_custom_term, word, 0) && MC2_PRIV_HAS(mc2_custom_term, numbers, 16) &&
+                MC2_PRIV_HAS(mc2_custom_term, count, 64) && sizeof(struct mc2_custom_term) == 72);
+MC2_PRIV_LAYOUT(MC2_PRIV_HAS(mc2_custom_step, call, 0) && MC2_PRIV_HAS(mc2_custom_step, reply, 72) &&
+                sizeof(struct mc2_custom_step) == 144);
+MC2_PRIV_LAYOUT(MC2_PRIV_HAS(mc2_custom_line, kind, 0) && MC2_PRIV_HAS(mc2_custom_line, cpu, 4) &&
+                MC2_PRIV_HAS(mc2_custom_line, next, 8) && MC2_PRIV_HAS(mc2_custom_line, limit, 16) &&
+                MC2_PRIV_HAS(mc2_custom_line, count, 24) && MC2_PRIV_HAS(mc2_custom_line, name, 32) &&
+                MC2_PRIV_HAS(mc2_custom_line, object_kind, 48) && MC2_PRIV_HAS(mc2_custom_line, numbers, 64) &&
+                MC2_PRIV_HAS(mc2_custom_line, steps, 320) && sizeof(struct mc2_custom_line) == 1472);
 
 #endif

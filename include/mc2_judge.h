@@ -1,25 +1,37 @@
-/* Judging the text of a record, of either form, from C or C++, by the static library libjudge.a.
-
-   `tools/develop/library judge --unproved` makes the library in a minute or two, at .unproved/libjudge.a, and without the last
-   word it proves it, at crates/judge/out/libjudge.a. A program links it, and behind it the kit's heap, liblibc_c.a in the folder
-   c of the kit, which takes memory by malloc and gives it back by free:
-
-       gcc -Iinclude examples/judge/judge.c .unproved/libjudge.a KIT/c/liblibc_c.a -pthread
-
-   A kernel without a C library links it alone, and has memcpy, memmove, memset, rattle_alloc, rattle_realloc and rattle_dealloc,
-   of which mc2_heap.h has the last three.
-
-   What is proved of both functions is told in crates/judge/README.md. It holds if the caller gives what is said here:
-
-   - `text` is `length` bytes, which nobody writes to meanwhile; `room` is `turns` places, and `told` one, which nobody else
-     touches meanwhile.
-   - The three don't overlap: no byte of one is a byte of another.
-   - No pointer is NULL, not even where it points to nothing, and `room` and `told` are aligned as C aligns them, to 8 bytes.
-   - Each size is right, 0 too, if what it counts has at most PTRDIFF_MAX bytes. No array of C has more.
-
-   The functions keep nothing between two calls, so several threads may call them at once. A call takes at most 6,144 bytes of
-   stack, and of memory at one time at most 4 bytes for each byte of the text, and 300,000 more. All of it is given back before
-   the call returns. tools/check/metal and tests/c/judge hold the calls to these figures, which aren't proved. */
+// mc2_judge.h - judges the text of a record (docs/FORMATS.md), and puts its entries in one order, for C11 and C++17.
+//
+//     struct mc2_report report;
+//     mc2_audit(text, length, &report);
+//     if (report.kind == MC2_SOUND) ..
+//
+// `tools/develop/library judge --unproved` compiles the library in a minute or two, to .unproved/libjudge.a. Without the last word
+// it proves the library, to crates/judge/out/libjudge.a. Link either with the kit's heap (malloc and free):
+//
+//     gcc -Iinclude examples/judge/judge.c .unproved/libjudge.a KIT/c/liblibc_c.a -pthread
+//
+// Compiles with -ffreestanding. A kernel without a C library links only libjudge.a, and provides memcpy, memmove, memset,
+// rattle_alloc, rattle_realloc and rattle_dealloc; mc2_heap.h has the last three.
+//
+// See also  mc2_custom.h: records of objects of your own.
+//
+// CALLER OBLIGATIONS (not checked)
+//
+//   1. `text` points to `length` bytes, `order` to `capacity` places and `report` to one report. During the call no other thread
+//      writes `text`, or touches `order` and `report`.
+//   2. The three don't overlap: no byte of one is a byte of another.
+//   3. No pointer is NULL, even if its length or capacity is 0. `order` and `report` are aligned to 8 bytes, as C aligns them.
+//   4. The text and the places have at most PTRDIFF_MAX bytes each, as every array in C.
+//
+// WHAT IS PROVED
+//
+//   Both functions, by the contracts of crates/judge/README.md. The figures of stack and memory below aren't proved;
+//   tools/check/metal and tests/c/judge check calls against them.
+//
+// CONTEXT
+//
+//   Any number of threads may call the functions at the same time: nothing is kept between two calls. They use the heap, and
+//   otherwise don't block. A call takes at most 4 bytes of memory for each byte of the text and 1,100,000 more, all of which it
+//   frees before it returns. In the proved library it takes at most 6,144 bytes of stack; unproved ones take more.
 #ifndef MC2_JUDGE_H
 #define MC2_JUDGE_H
 
@@ -34,76 +46,77 @@
 extern "C" {
 #endif
 
-/* What is told, and what its numbers are. Objects, events, steps, CPUs and entries are numbered from 0, in the order of the
-   record. */
+// The kinds of reports. After each colon are its numbers, in the order `first`, `second`, `third`. Objects, events, steps, CPUs
+// and entries are numbered from 0, in the order of the record.
 enum mc2_verdict {
-    /* The record is sound. From mc2_merge: how many entries it has, all of which lie in the room, in order. */
+    // The record is sound. From mc2_merge: the number of entries, all of which are in `order`.
     MC2_SOUND = 0,
-    /* A log has more events than its limit: the object. */
+
+    // ---- Faults: the record is unsound. The first one is reported.
+
+    // A log has more events than its limit: the object.
     MC2_TOO_LONG = 1,
-    /* A step has a wrong reply, or stands behind one that refused: the object, the event and the step. */
+    // A step has a wrong reply, or follows a step of its event that refused: the object, the event, the step.
     MC2_WRONG_STEP = 2,
-    /* An entry found no room, though there was some: the CPU and the entry. */
+    // An entry says that the log had no room, but it had: the CPU, the entry.
     MC2_ROOM_WAS_LEFT = 3,
-    /* An entry's steps aren't those of the CPU's next event on that object, or there is none: the CPU and the entry. */
+    // An entry's steps aren't those of the CPU's next event on that object, or there is no next one: the CPU, the entry.
     MC2_NOT_ITS_EVENT = 4,
-    /* An entry's steps aren't what was asked: the CPU and the entry. */
+    // An entry's steps aren't the calls that were asked for: the CPU, the entry.
     MC2_NOT_ASKED = 5,
-    /* No entry took an event: the object and the event. */
+    // An event has no entry: the object, the event.
     MC2_UNCLAIMED = 6,
-    /* The record is sound, but its entries have no order: how many entries, which lie in the room, wait for one another. */
+
+    // ---- Other reports
+
+    // The record is sound, but its entries have no order: the number of entries, all in `order`, that wait for one another.
     MC2_CYCLE = 7,
-    /* The text is no record: the first line, from 1, with which no record goes on. */
+    // The text isn't a record: the first line, from 1, that can't follow the lines before it.
     MC2_BAD_LINE = 8,
     MC2_OUT_OF_MEMORY = 9,
-    /* The order, or the cycle, has no room, and nothing was written to it: how many places are needed. */
+    // The order, or the cycle, has more entries than `capacity`: the number of entries. Nothing was written to `order`.
     MC2_NO_ROOM = 10,
-    /* Told by the functions of mc2_custom.h alone. The text is a record, but a count is missing, one too many, or above the steps
-       of its log: the first such object. */
+    // Only from mc2_custom.h. The text is a record, but a count is missing, there is one too many, or one is above the number of
+    // steps of its log: the first such object.
     MC2_WRONG_COUNTS = 11
 };
 
-/* One of mc2_verdict, and its numbers. Those that it has not are 0. */
+// A report: one of mc2_verdict, and its numbers. The numbers that a kind doesn't have are 0.
 struct mc2_report {
     uint32_t kind;
     uint64_t first, second, third;
 };
 
-/* An entry: its CPU, and its place among that CPU's. */
+// An entry: its CPU, and its place among that CPU's entries.
 struct mc2_entry_id {
     uint64_t cpu, entry;
 };
 
-/* Tells whether the record of this text is sound, or else its first fault. */
-void mc2_audit(const uint8_t *text, size_t length, struct mc2_report *told);
+// Judges a record.
+// Returns  in `report`: MC2_SOUND; the first fault; MC2_BAD_LINE; MC2_OUT_OF_MEMORY.
+void mc2_audit(const uint8_t *text, size_t length, struct mc2_report *report);
 
-/* Puts the entries of the record of this text in one order: each CPU's in theirs, those done on an object in its log's. A record
-   has at most 640,000. */
-void mc2_merge(const uint8_t *text, size_t length, struct mc2_entry_id *room, size_t turns, struct mc2_report *told);
+// Judges a record, and puts the entries of a sound one in one order. Each CPU's entries are in the order of its transcript, and
+// those with an event on an object are in the order of its log. Where several entries could be next, the lowest CPU's is.
+//   order, capacity   the places that receive the order or the cycle; the others aren't written. A record 1 or 2 has at most
+//                     640,000 entries.
+// Returns  in `report`: as mc2_audit; MC2_CYCLE; MC2_NO_ROOM.
+void mc2_merge(const uint8_t *text, size_t length, struct mc2_entry_id *order, size_t capacity, struct mc2_report *report);
 
 #ifdef __cplusplus
 }
 #endif
 
-/* What crosses lies as the library has it. tests/c/judge compares its sources with this header, name by name. */
+// Internal: the structs are laid out as the library has them. tests/c/judge compares its sources with this header, name by name.
 #ifdef __cplusplus
-#define MC2_PRIV_HAS(type, field, place) static_assert(offsetof(struct type, field) == (place), "another layout")
-#define MC2_PRIV_HAS_SIZE(type, size) static_assert(sizeof(struct type) == (size), "another size")
+#define MC2_PRIV_LAYOUT(is_same) static_assert(is_same, "the library has another layout")
 #else
-#define MC2_PRIV_HAS(type, field, place) _Static_assert(offsetof(struct type, field) == (place), "another layout")
-#define MC2_PRIV_HAS_SIZE(type, size) _Static_assert(sizeof(struct type) == (size), "another size")
+#define MC2_PRIV_LAYOUT(is_same) _Static_assert(is_same, "the library has another layout")
 #endif
+#define MC2_PRIV_HAS(type, field, place) (offsetof(struct type, field) == (place))
 
-MC2_PRIV_HAS(mc2_report, kind, 0);
-MC2_PRIV_HAS(mc2_report, first, 8);
-MC2_PRIV_HAS(mc2_report, second, 16);
-MC2_PRIV_HAS(mc2_report, third, 24);
-MC2_PRIV_HAS_SIZE(mc2_report, 32);
-MC2_PRIV_HAS(mc2_entry_id, cpu, 0);
-MC2_PRIV_HAS(mc2_entry_id, entry, 8);
-MC2_PRIV_HAS_SIZE(mc2_entry_id, 16);
-
-#undef MC2_PRIV_HAS
-#undef MC2_PRIV_HAS_SIZE
+MC2_PRIV_LAYOUT(MC2_PRIV_HAS(mc2_report, kind, 0) && MC2_PRIV_HAS(mc2_report, first, 8) && MC2_PRIV_HAS(mc2_report, second, 16) &&
+                MC2_PRIV_HAS(mc2_report, third, 24) && sizeof(struct mc2_report) == 32);
+MC2_PRIV_LAYOUT(MC2_PRIV_HAS(mc2_entry_id, cpu, 0) && MC2_PRIV_HAS(mc2_entry_id, entry, 8) && sizeof(struct mc2_entry_id) == 16);
 
 #endif

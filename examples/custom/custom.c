@@ -1,15 +1,15 @@
-/* use: own audit|merge|counts [FILE]
+/* use: custom audit|merge|counts [FILE]
 
-   Judges a record 3 by the models of models.h, as `mc2` judges a record 2, from a file or from standard input. Behind the
-   verdict on a wrong step comes why it is wrong, in the model's words, and a few of the steps before it after which it is wrong
-   for the same reason. `merge` prints the entries of a sound record in one order, or a cycle of them. `counts` prints how many
-   steps of each log its model calls right.
+   Judges a record 3 by the models of models.h, as `mc2` judges a record 2, from a file or from standard input. After the verdict
+   on a wrong step it prints why the step is wrong, in the model's words, and a few of the steps before it, after which it is
+   wrong for the same reason. `merge` prints the entries of a sound record in one order, or a cycle of them. `counts` prints how
+   many steps of each log its model calls right.
 
        gcc -std=c11 -O2 -Iinclude -o /tmp/custom examples/custom/custom.c .unproved/libjudge.a KIT/c/liblibc_c.a -pthread
 
-   With -I. -DMC2_MODELS='"mine.h"' it judges by the models of mine.h: it has to have an array `models` as models.h has.
+   With -I. -DMC2_MODELS='"mine.h"' it judges by the models of mine.h, which must define an array `models` as models.h does.
 
-   Status: 0; 1 if the record is unsound, or has a cycle; 2 for wrong words, for what is no record, or for an object without a
+   Status: 0; 1 if the record is unsound, or has a cycle; 2 for wrong words, if the text isn't a record, or if an object has no
    model; 3 if the file can't be read, or memory is refused. */
 #include "mc2_custom_witness.h"
 #include <inttypes.h>
@@ -28,7 +28,7 @@ enum { MODEL_COUNT = sizeof models / sizeof *models };
 
 static char *text;
 static size_t length;
-static struct mc2_custom_logs asked;
+static struct mc2_custom_logs logs;
 
 static const uint8_t *bytes(void) { return (const uint8_t *)text; }
 
@@ -55,7 +55,7 @@ static void read_text(FILE *file) {
             fail("memory");
     }
     if (!file || ferror(file))
-        fail("own");
+        fail("custom");
 }
 
 /* ---- What is printed */
@@ -68,11 +68,11 @@ static void put_line(uint64_t at) {
 
 static void put_name(uint64_t object) {
     struct mc2_custom_line line;
-    mc2_custom_line(bytes(), length, (size_t)asked.object[object], &line);
+    mc2_custom_line(bytes(), length, (size_t)logs.object[object], &line);
     printf("%.*s", MC2_CUSTOM_LETTERS, (const char *)line.name);
 }
 
-/* Prints the line of each event that has a step of these. */
+/* Prints the line of each event that has one of these steps. */
 static void put_steps(const struct mc2_custom_place *steps, size_t count) {
     for (size_t at = 0; at < count; at++)
         if (at == 0 || steps[at].line != steps[at - 1].line) {
@@ -81,91 +81,92 @@ static void put_steps(const struct mc2_custom_place *steps, size_t count) {
         }
 }
 
-static void put_witness(uint64_t object) {
-    size_t count = (size_t)asked.right[object], log = (size_t)asked.log[object];
-    struct mc2_priv_trial trial = mc2_priv_try(bytes(), length, models, MODEL_COUNT, &asked, (size_t)object);
-    struct mc2_custom_witness witness = {get(count + 1, sizeof *witness.steps), 0, MOST_ASKED, "", false};
-    const char *reason = mc2_custom_find_witness(&trial, log, count, &witness);
-    printf("%s:\n", reason);
-    put_steps(witness.steps, witness.count + 1);
-    if (witness.right[0])
-        printf("right would have been%s: %s\n", witness.is_by_reason ? " behind all of the log" : "", witness.right);
-    free(witness.steps);
+/* Whether a model of models.h has the object's kind. */
+static bool has_model(uint64_t object) {
+    struct mc2_custom_line line;
+    size_t at = 0;
+    mc2_custom_line(bytes(), length, (size_t)logs.object[object], &line);
+    while (at < MODEL_COUNT && strncmp(models[at].kind, (const char *)line.object_kind, MC2_CUSTOM_LETTERS) != 0)
+        at++;
+    return at < MODEL_COUNT;
 }
 
-/* Whether the step is wrong by a model that is here, and not for standing behind one that refused: the steps before it are all
-   that are right. The library's model gives no reasons. */
-static bool is_wrong_by_model(const struct mc2_report *told) {
-    struct mc2_priv_trial trial = mc2_priv_try(bytes(), length, models, MODEL_COUNT, &asked, (size_t)told->first);
-    size_t wanted = (size_t)asked.right[told->first] + 1;
-    struct mc2_custom_place *steps = get(wanted, sizeof *steps);
-    size_t found = mc2_priv_places(&trial, (size_t)asked.log[told->first], steps, wanted);
-    bool is_there = trial.model && found == wanted && steps[wanted - 1].event == told->second;
-    bool is_wrong = is_there && steps[wanted - 1].step == told->third;
+/* Prints why the step is wrong. The library's model gives no reasons. */
+static void put_reason(const struct mc2_report *report) {
+    struct mc2_custom_place *steps = get((size_t)logs.right[report->first] + 1, sizeof *steps);
+    struct mc2_custom_witness witness = {steps, 0, MOST_ASKED, "", false};
+    const char *reason = mc2_custom_find_witness(bytes(), length, models, MODEL_COUNT, &logs, report, &witness);
+    if (reason) {
+        printf("%s:\n", reason);
+        put_steps(steps, witness.count + 1);
+        if (witness.right[0])
+            printf("right would have been%s: %s\n", witness.is_by_reason ? ", after the whole log" : "", witness.right);
+    } else if (has_model(report->first)) {
+        puts("it follows a step that refused");
+    }
     free(steps);
-    return is_wrong;
 }
 
-static void put_fault(const struct mc2_report *told) {
+static void put_fault(const struct mc2_report *report) {
     static const char *const words[] = {"", "too long", "wrong step", "room was left", "not its event", "not what was asked",
                                         "unclaimed"};
-    bool is_of_cpu = told->kind >= MC2_ROOM_WAS_LEFT && told->kind <= MC2_NOT_ASKED;
+    bool is_of_cpu = report->kind >= MC2_ROOM_WAS_LEFT && report->kind <= MC2_NOT_ASKED;
     printf("unsound: ");
     if (is_of_cpu) {
-        printf("cpu %" PRIu64 " entry %" PRIu64, told->first, told->second + 1);
+        printf("cpu %" PRIu64 " entry %" PRIu64, report->first, report->second + 1);
     } else {
         printf("log ");
-        put_name(told->first);
+        put_name(report->first);
     }
-    if (told->kind == MC2_WRONG_STEP || told->kind == MC2_UNCLAIMED)
-        printf(" event %" PRIu64, told->second + 1);
-    if (told->kind == MC2_WRONG_STEP)
-        printf(" step %" PRIu64, told->third + 1);
-    printf(": %s\n", words[told->kind]);
+    if (report->kind == MC2_WRONG_STEP || report->kind == MC2_UNCLAIMED)
+        printf(" event %" PRIu64, report->second + 1);
+    if (report->kind == MC2_WRONG_STEP)
+        printf(" step %" PRIu64, report->third + 1);
+    printf(": %s\n", words[report->kind]);
 }
 
 static void refuse_object(uint64_t object) {
     struct mc2_custom_line line;
-    mc2_custom_line(bytes(), length, (size_t)asked.object[object], &line);
-    bool is_there = mc2_priv_model_of(&line, models, MODEL_COUNT) != NULL;
-    fprintf(stderr, "own: object %" PRIu64 ", of kind %.*s: ", object + 1, MC2_CUSTOM_LETTERS, (const char *)line.object_kind);
-    fputs(is_there ? "its model refuses its numbers, or got no memory\n" : "there is no model of it with these numbers\n", stderr);
+    mc2_custom_line(bytes(), length, (size_t)logs.object[object], &line);
+    fprintf(stderr, "custom: object %" PRIu64 ", of kind %.*s: ", object + 1, MC2_CUSTOM_LETTERS, (const char *)line.object_kind);
+    fputs(has_model(object) ? "its model refuses its numbers, or got no memory\n" : "there is no model of it with these numbers\n",
+          stderr);
 }
 
-static int refuse(const struct mc2_report *told) {
-    if (told->kind == MC2_BAD_LINE)
-        fprintf(stderr, "own: line %" PRIu64 ": no record goes on so\n", told->first);
-    else if (told->kind == MC2_NO_MODEL)
-        refuse_object(told->first);
+static int refuse(const struct mc2_report *report) {
+    if (report->kind == MC2_BAD_LINE)
+        fprintf(stderr, "custom: line %" PRIu64 ": this isn't a record\n", report->first);
+    else if (report->kind == MC2_NO_MODEL)
+        refuse_object(report->first);
     else
-        fprintf(stderr, "own: kind %u\n", (unsigned)told->kind);
-    return told->kind == MC2_BAD_LINE || told->kind == MC2_NO_MODEL ? 2 : 3;
+        fprintf(stderr, "custom: kind %u\n", (unsigned)report->kind);
+    return report->kind == MC2_BAD_LINE || report->kind == MC2_NO_MODEL ? 2 : 3;
 }
 
-static int tell(const struct mc2_report *told) {
-    if (told->kind > MC2_UNCLAIMED)
-        return refuse(told);
-    put_fault(told);
-    if (told->kind == MC2_WRONG_STEP && is_wrong_by_model(told))
-        put_witness(told->first);
-    else if (told->kind == MC2_WRONG_STEP)
-        puts("it stands behind a step that refused");
+static int put_verdict(const struct mc2_report *report) {
+    if (report->kind == MC2_SOUND)
+        return puts("sound") < 0;
+    if (report->kind > MC2_UNCLAIMED)
+        return refuse(report);
+    put_fault(report);
+    if (report->kind == MC2_WRONG_STEP)
+        put_reason(report);
     return 1;
 }
 
-static int put_order(const struct mc2_report *told, const struct mc2_entry_id *room) {
-    if (told->kind == MC2_CYCLE)
+static int put_order(const struct mc2_report *report, const struct mc2_entry_id *order) {
+    if (report->kind == MC2_CYCLE)
         puts("cycle:");
-    for (uint64_t at = 0; at < told->first; at++)
-        printf("cpu %" PRIu64 " entry %" PRIu64 "\n", room[at].cpu, room[at].entry + 1);
-    return told->kind == MC2_CYCLE;
+    for (uint64_t at = 0; at < report->first; at++)
+        printf("cpu %" PRIu64 " entry %" PRIu64 "\n", order[at].cpu, order[at].entry + 1);
+    return report->kind == MC2_CYCLE;
 }
 
-static int put_counts(const struct mc2_report *told) {
-    if (told->kind > MC2_UNCLAIMED)
-        return refuse(told);
-    for (size_t at = 0; at < asked.objects; at++)
-        printf("%" PRIu64 "%c", asked.right[at], at + 1 < asked.objects ? ',' : '\n');
+static int put_counts(const struct mc2_report *report) {
+    if (report->kind > MC2_UNCLAIMED)
+        return refuse(report);
+    for (size_t at = 0; at < logs.objects; at++)
+        printf("%" PRIu64 "%c", logs.right[at], at + 1 < logs.objects ? ',' : '\n');
     return 0;
 }
 
@@ -173,19 +174,19 @@ static int put_counts(const struct mc2_report *told) {
 static size_t most_entries(void) { return length / 14; }
 
 int main(int count, char **words) {
-    struct mc2_report told;
+    struct mc2_report report;
     bool merges = count > 1 && strcmp(words[1], "merge") == 0;
     bool counts = count > 1 && strcmp(words[1], "counts") == 0;
     if (count < 2 || count > 3 || (!merges && !counts && strcmp(words[1], "audit") != 0)) {
-        fputs("use: own audit|merge|counts [FILE]\n", stderr);
+        fputs("use: custom audit|merge|counts [FILE]\n", stderr);
         return 2;
     }
     read_text(count > 2 ? fopen(words[2], "rb") : stdin);
-    struct mc2_entry_id *room = merges ? get(most_entries(), sizeof *room) : NULL;
-    mc2_custom_judge(bytes(), length, models, MODEL_COUNT, &asked, room, merges ? most_entries() : 0, &told);
-    bool has_order = merges && (told.kind == MC2_SOUND || told.kind == MC2_CYCLE);
-    int status = counts ? put_counts(&told) : has_order ? put_order(&told, room) : told.kind == MC2_SOUND ? puts("sound") < 0 : tell(&told);
-    free(room);
+    struct mc2_entry_id *order = merges ? get(most_entries(), sizeof *order) : NULL;
+    mc2_custom_judge(bytes(), length, models, MODEL_COUNT, &logs, order, merges ? most_entries() : 0, &report);
+    bool has_order = merges && (report.kind == MC2_SOUND || report.kind == MC2_CYCLE);
+    int status = counts ? put_counts(&report) : has_order ? put_order(&report, order) : put_verdict(&report);
+    free(order);
     free(text);
     return status;
 }

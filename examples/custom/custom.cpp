@@ -1,12 +1,12 @@
-// use: own FILE
+// use: custom FILE
 //
 // Judges a record 3 in C++17: a run queue by a class, and a buddy allocator and a pipe by the models of models.h. It prints the
-// verdict, and why a step is wrong. From the top of the repository:
+// verdict. From the top of the repository:
 //
 //     g++ -std=c++17 -O2 -Iinclude -o /tmp/custom examples/custom/custom.cpp crates/judge/out/libjudge.a KIT/c/liblibc_c.a -pthread
 //
-// Status: 0; 1 if the record is unsound; 2 for wrong words, for what is no record, or for an object without a model.
-#include "mc2_custom_witness.h"
+// Status: 0; 1 if the record is unsound; 2 for wrong words, if the text isn't a record, or if an object has no model.
+#include "mc2_custom.h"
 #include "models.h"
 #include <fstream>
 #include <iostream>
@@ -17,7 +17,7 @@
 #include <string>
 #include <vector>
 
-// What mc2_custom.h asks, of a class: a constructor that throws if no object has these numbers, and `step`.
+// A model of mc2_custom.h, made of a class: its constructor throws if no object has these numbers, and it has `step`.
 template <class State> struct mc2_model model_of(const char *kind) {
     return {kind,
             [](const uint64_t *numbers, uint64_t count) -> void * {
@@ -32,7 +32,7 @@ template <class State> struct mc2_model model_of(const char *kind) {
             nullptr};
 }
 
-// The threads of each priority. Any thread of the highest may come.
+// The threads of each priority. Any thread of the highest priority may be taken.
 class RunQueue {
     uint64_t threads;
     std::map<uint64_t, std::set<uint64_t>> waiting;
@@ -85,18 +85,18 @@ static std::string name_of(const std::string &text, size_t at) {
     return name.substr(0, name.find('\0'));
 }
 
-static std::string place_of(const std::string &text, const mc2_custom_logs &asked, const mc2_report &told) {
-    if (told.kind >= MC2_ROOM_WAS_LEFT && told.kind <= MC2_NOT_ASKED)
-        return "cpu " + std::to_string(told.first) + " entry " + std::to_string(told.second + 1);
-    std::string place = "log " + name_of(text, static_cast<size_t>(asked.object[told.first]));
-    if (told.kind != MC2_TOO_LONG)
-        place += " event " + std::to_string(told.second + 1);
-    return told.kind == MC2_WRONG_STEP ? place + " step " + std::to_string(told.third + 1) : place;
+static std::string place_of(const std::string &text, const mc2_custom_logs &logs, const mc2_report &report) {
+    if (report.kind >= MC2_ROOM_WAS_LEFT && report.kind <= MC2_NOT_ASKED)
+        return "cpu " + std::to_string(report.first) + " entry " + std::to_string(report.second + 1);
+    std::string place = "log " + name_of(text, static_cast<size_t>(logs.object[report.first]));
+    if (report.kind != MC2_TOO_LONG)
+        place += " event " + std::to_string(report.second + 1);
+    return report.kind == MC2_WRONG_STEP ? place + " step " + std::to_string(report.third + 1) : place;
 }
 
 int main(int count, char **words) {
     if (count != 2) {
-        std::cerr << "use: own FILE\n";
+        std::cerr << "use: custom FILE\n";
         return 2;
     }
     std::ifstream file(words[1], std::ios::binary);
@@ -104,16 +104,16 @@ int main(int count, char **words) {
     const mc2_model kinds[] = {model_of<RunQueue>("runq"), {"buddy", buddy_open, buddy_step, close_state, buddy_says},
                                {"pipe", pipe_open, pipe_step, close_state, pipe_says},
                                {"any", any_open, any_step, close_state, nullptr}};
-    auto asked = std::make_unique<mc2_custom_logs>();
-    mc2_report told;
-    mc2_custom_judge(reinterpret_cast<const uint8_t *>(text.data()), text.size(), kinds, std::size(kinds), asked.get(), nullptr, 0,
-                  &told);
-    if (told.kind > MC2_UNCLAIMED) {
-        std::cerr << "own: kind " << told.kind << ", number " << told.first << "\n";
+    auto logs = std::make_unique<mc2_custom_logs>();
+    mc2_report report;
+    mc2_custom_judge(reinterpret_cast<const uint8_t *>(text.data()), text.size(), kinds, std::size(kinds), logs.get(), nullptr, 0,
+                  &report);
+    if (report.kind > MC2_UNCLAIMED) {
+        std::cerr << "custom: kind " << report.kind << ", number " << report.first << "\n";
         return 2;
     }
-    if (told.kind != MC2_SOUND)
-        std::cout << "unsound: " << place_of(text, *asked, told) << ": ";
-    std::cout << faults[told.kind] << "\n";
-    return told.kind != MC2_SOUND;
+    if (report.kind != MC2_SOUND)
+        std::cout << "unsound: " << place_of(text, *logs, report) << ": ";
+    std::cout << faults[report.kind] << "\n";
+    return report.kind != MC2_SOUND;
 }

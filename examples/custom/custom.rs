@@ -1,18 +1,18 @@
-//! use: own FILE
+//! use: custom FILE
 //!
-//! Judges a record 3 in Rust, each log by a model on a thread of its own: run queues with priorities by `RunQueue`, and objects
-//! of other kinds by `Any`, which calls each step right. From the top of the repository:
+//! Judges a record 3 in Rust. Each log is checked by a model on its own thread: run queues with priorities by `RunQueue`, and
+//! objects of other kinds by `Any`, which calls every step right. From the top of the repository:
 //!
 //!     rustc -O examples/custom/custom.rs -L crates/judge/out -L KIT/c -l static=judge -l static=libc_c
 //!
-//! It prints the kind of the verdict with its numbers, and why the first wrong step of each log is wrong.
+//! It prints the kind of the report with its numbers, and for each log why its first wrong step is wrong.
 use std::collections::BTreeMap;
 use std::process::ExitCode;
 
-/// What crosses, as in include/mc2_custom.h.
+/// These structs are those of include/mc2_custom.h.
 #[repr(C)]
 #[derive(Clone, Copy, Default)]
-struct Said {
+struct Term {
     word: [u8; 16],
     numbers: [u64; 6],
     count: u64,
@@ -21,8 +21,8 @@ struct Said {
 #[repr(C)]
 #[derive(Clone, Copy, Default)]
 struct Step {
-    call: Said,
-    reply: Said,
+    call: Term,
+    reply: Term,
 }
 
 #[repr(C)]
@@ -41,7 +41,7 @@ struct Line {
 
 #[repr(C)]
 #[derive(Default)]
-struct Told {
+struct Report {
     kind: u32,
     numbers: [u64; 3],
 }
@@ -54,12 +54,12 @@ const OTHER: u32 = 4;
 
 unsafe extern "C" {
     fn mc2_custom_line(text: *const u8, length: usize, at: usize, line: *mut Line);
-    fn mc2_custom_audit(text: *const u8, length: usize, right: *const u64, objects: usize, told: *mut Told);
+    fn mc2_custom_audit(text: *const u8, length: usize, right: *const u64, objects: usize, report: *mut Report);
 }
 
 fn line_at(text: &[u8], at: u64) -> Line {
     let mut line = Line::default();
-    // A slice's pointer is never null, and the library keeps nothing.
+    // A slice's pointer is never NULL, and the library keeps no pointer.
     unsafe { mc2_custom_line(text.as_ptr(), text.len(), at as usize, &mut line) };
     line
 }
@@ -69,11 +69,11 @@ fn word(padded: &[u8; 16]) -> &str {
     std::str::from_utf8(&padded[..length]).expect("words are ASCII")
 }
 
-fn spoken(said: &Said) -> (&str, &[u64]) {
-    (word(&said.word), &said.numbers[..said.count as usize])
+fn term(it: &Term) -> (&str, &[u64]) {
+    (word(&it.word), &it.numbers[..it.count as usize])
 }
 
-/// Says of each step whether the object may have answered so.
+/// Says of each step whether the object may have replied so.
 trait Model {
     fn step(&mut self, call: (&str, &[u64]), reply: (&str, &[u64])) -> Result<(), &'static str>;
 }
@@ -86,7 +86,7 @@ impl Model for Any {
     }
 }
 
-/// The threads of each priority. Any thread of the highest may come.
+/// The threads of each priority. Any thread of the highest priority may be taken.
 #[derive(Default)]
 struct RunQueue(BTreeMap<u64, Vec<u64>>);
 
@@ -127,13 +127,13 @@ struct Log {
     begin: u64,
 }
 
-/// Where the line begins that many lines further on.
+/// The byte where the line begins that is this many lines further on.
 fn skip(text: &[u8], at: u64, lines: u64) -> u64 {
     let rest = text.get(at as usize..).unwrap_or_default();
     at + rest.split_inclusive(|it| *it == b'\n').take(lines as usize).map(<[u8]>::len).sum::<usize>() as u64
 }
 
-/// The objects and their logs. Of what is no record a part of them, and the library refuses it.
+/// The objects and their logs. If the text isn't a record, it finds a part of them, and the library refuses the text.
 fn find(text: &[u8]) -> Vec<Log> {
     let (mut logs, mut begun, mut line, mut at) = (Vec::new(), 0, line_at(text, 0), 0);
     while line.kind == LOG || (begun == 0 && [OBJECT, OTHER].contains(&line.kind)) {
@@ -156,7 +156,7 @@ fn count(text: &[u8], log: &Log) -> (u64, Option<&'static str>) {
     line = line_at(text, line.next);
     while line.kind == EVENT {
         for step in &line.steps[..line.count as usize] {
-            if let Err(why) = model.step(spoken(&step.call), spoken(&step.reply)) {
+            if let Err(why) = model.step(term(&step.call), term(&step.reply)) {
                 return (right, Some(why));
             }
             right += 1;
@@ -166,23 +166,23 @@ fn count(text: &[u8], log: &Log) -> (u64, Option<&'static str>) {
     (right, None)
 }
 
-fn audit(text: &[u8], right: &[u64]) -> Told {
-    let mut told = Told::default();
-    unsafe { mc2_custom_audit(text.as_ptr(), text.len(), right.as_ptr(), right.len(), &mut told) };
-    told
+fn audit(text: &[u8], right: &[u64]) -> Report {
+    let mut report = Report::default();
+    unsafe { mc2_custom_audit(text.as_ptr(), text.len(), right.as_ptr(), right.len(), &mut report) };
+    report
 }
 
 fn main() -> ExitCode {
-    let file = std::env::args().nth(1).expect("use: own FILE");
+    let file = std::env::args().nth(1).expect("use: custom FILE");
     let text = std::fs::read(file).expect("the file can't be read");
     let logs = find(&text);
     let counts: Vec<_> = std::thread::scope(|scope| {
-        let asked: Vec<_> = logs.iter().map(|log| scope.spawn(|| count(&text, log))).collect();
-        asked.into_iter().map(|it| it.join().expect("a model has failed")).collect()
+        let threads: Vec<_> = logs.iter().map(|log| scope.spawn(|| count(&text, log))).collect();
+        threads.into_iter().map(|it| it.join().expect("a model has failed")).collect()
     });
     let right: Vec<u64> = counts.iter().map(|it| it.0).collect();
-    let told = audit(&text, &right);
-    println!("{} {:?}", told.kind, told.numbers);
+    let report = audit(&text, &right);
+    println!("{} {:?}", report.kind, report.numbers);
     counts.iter().filter_map(|it| it.1).for_each(|why| println!("{why}"));
-    ExitCode::from((told.kind != SOUND) as u8)
+    ExitCode::from((report.kind != SOUND) as u8)
 }

@@ -1,6 +1,6 @@
-/* Three models. No function from state and call to a reply can be any of them: a buddy allocator may give any free block, a
-   pipe may write and read a part, and a run queue may give any thread of the highest priority. For C11 and C++17. Nothing is
-   proved. */
+/* Three models of objects that may reply in more than one way: a buddy allocator may return any free block, a pipe may write or
+   read only a part, and a run queue may return any thread of the highest priority. And a model that calls every reply right. For
+   C11 and C++17. Nothing is proved. */
 #ifndef MODELS_H
 #define MODELS_H
 
@@ -14,10 +14,10 @@ static void close_state(void *state) { free(state); }
 
 static unsigned long long wide(uint64_t number) { return number; }
 
-/* ---- runq THREADS: threads wait with their priorities. The numbers of the threads are below THREADS.
+/* ---- runq THREADS: threads wait, each with a priority. Threads are numbered from 0 to THREADS - 1.
 
      put T P = ok         thread T, which didn't wait, waits with priority P
-     take = thread T      T waited with the highest priority of all, and waits no more
+     take = thread T      T waited with the highest priority of all, and doesn't wait any more
      take = empty         no thread waits */
 
 enum { RUNQ_THREADS = 1 << 16 };
@@ -134,7 +134,7 @@ static void buddy_count(struct buddy *b, uint64_t page, uint32_t order, bool giv
     }
 }
 
-/* Gives a block, or takes it back. The smaller blocks in it go or come with it. */
+/* Allocates a block or frees it, with all smaller blocks in it. */
 static void buddy_mark(struct buddy *b, uint64_t page, uint32_t order, bool gives) {
     b->given[page] = (uint8_t)(gives ? order + 1 : 0);
     b->left += gives ? -(1u << order) : 1u << order;
@@ -288,7 +288,7 @@ static void pipe_says(void *state, const struct mc2_custom_term *call, char *out
         snprintf(out, room, least == most ? "wrote %llu" : "wrote %llu, or fewer", wide(most));
 }
 
-/* ---- any: whatever such an object answers is right. It is for records whose replies aren't to be judged. */
+/* ---- any: every reply is right. It is for records whose replies you don't want to judge. */
 
 static void *any_open(const uint64_t *numbers, uint64_t count) {
     (void)numbers, (void)count;

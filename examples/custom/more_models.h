@@ -1,5 +1,5 @@
-/* Two more models, of a buffer and of references, for custom.c: -DMC2_MODELS='"more_models.h"'. tests/c/judge plants faults in
-   such objects. For C11 and C++17; nothing is proved.
+/* Two more models, of a buffer and of references, for custom.c: -DMC2_MODELS='"more_models.h"'. tests/c/judge judges records with
+   planted faults by them. For C11 and C++17. Nothing is proved.
 
    buffer ITEMS                     refs SLOTS: who calls, C, is a number of the call
      put A B = ok | full              make C S = now 1     C has one reference to a slot that nobody has
@@ -69,7 +69,7 @@ static void buffer_says(void *state, const struct mc2_custom_term *call, char *o
 }
 
 struct refs {
-    uint64_t own[SLOTS][CALLERS], all[SLOTS];
+    uint64_t held[SLOTS][CALLERS], all[SLOTS];
 };
 
 static void *refs_open(const uint64_t *numbers, uint64_t count) {
@@ -82,11 +82,11 @@ static const char *refs_step(void *state, const struct mc2_custom_step *step) {
     bool drops = mc2_custom_is(&step->call, "drop", 2), makes = mc2_custom_is(&step->call, "make", 2);
     if (makes ? r->all[slot] > 0 : r->all[slot] == 0)
         return makes ? "the slot is in use" : "nobody has the slot";
-    if (drops && r->own[slot][caller] == 0)
+    if (drops && r->held[slot][caller] == 0)
         return "this caller has no reference to drop";
     if (step->reply.numbers[0] != r->all[slot] + (drops ? UINT64_MAX : 1))
         return "the count is another";
-    r->own[slot][caller] += drops ? UINT64_MAX : 1;
+    r->held[slot][caller] += drops ? UINT64_MAX : 1;
     r->all[slot] = step->reply.numbers[0];
     return NULL;
 }

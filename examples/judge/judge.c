@@ -1,7 +1,7 @@
 /* use: judge audit|merge FILE..
 
-   Judges the records of files, each on a thread of its own, and prints for each file a line with what is told: the kind and its
-   three numbers. Behind the line of an order, or a cycle, come its entries, each a line: the CPU and the entry.
+   Judges the records in files, each on its own thread, and prints a line for each file: the kind of the report and its three
+   numbers. After the line of an order or a cycle it prints its entries, one on a line: the CPU and the entry.
 
    Status: 0; 2 for wrong words; 3 if a file can't be read, or memory or a thread is refused. */
 #include "mc2_judge.h"
@@ -11,15 +11,15 @@
 #include <string.h>
 
 /* 64 CPUs of 10,000 entries. */
-#define MOST_TURNS 640000
+#define MOST_ENTRIES 640000
 
 struct job {
     const char *file;
     int merges;
     unsigned char *text;
     size_t length;
-    struct mc2_entry_id *room;
-    struct mc2_report told;
+    struct mc2_entry_id *order;
+    struct mc2_report report;
 };
 
 static void fail(const char *what) {
@@ -53,33 +53,33 @@ static void read_text(struct job *job) {
 static void *judge(void *at) {
     struct job *job = at;
     if (job->merges)
-        mc2_merge(job->text, job->length, job->room, MOST_TURNS, &job->told);
+        mc2_merge(job->text, job->length, job->order, MOST_ENTRIES, &job->report);
     else
-        mc2_audit(job->text, job->length, &job->told);
+        mc2_audit(job->text, job->length, &job->report);
     return NULL;
 }
 
 static void print(const struct job *job) {
-    const struct mc2_report *told = &job->told;
-    printf("%u %llu %llu %llu\n", (unsigned)told->kind, (unsigned long long)told->first, (unsigned long long)told->second,
-           (unsigned long long)told->third);
-    if (!job->merges || (told->kind != MC2_SOUND && told->kind != MC2_CYCLE))
+    const struct mc2_report *report = &job->report;
+    printf("%u %llu %llu %llu\n", (unsigned)report->kind, (unsigned long long)report->first, (unsigned long long)report->second,
+           (unsigned long long)report->third);
+    if (!job->merges || (report->kind != MC2_SOUND && report->kind != MC2_CYCLE))
         return;
-    for (uint64_t i = 0; i < told->first; ++i)
-        printf("%llu %llu\n", (unsigned long long)job->room[i].cpu, (unsigned long long)job->room[i].entry);
+    for (uint64_t i = 0; i < report->first; ++i)
+        printf("%llu %llu\n", (unsigned long long)job->order[i].cpu, (unsigned long long)job->order[i].entry);
 }
 
 static void open_job(struct job *job, const char *file, int merges) {
     job->file = file;
     job->merges = merges;
-    job->room = get(merges ? MOST_TURNS * sizeof *job->room : 1);
+    job->order = get(merges ? MOST_ENTRIES * sizeof *job->order : 1);
     read_text(job);
 }
 
 static void close_job(struct job *job) {
     print(job);
     free(job->text);
-    free(job->room);
+    free(job->order);
 }
 
 int main(int count, char **words) {

@@ -1,4 +1,4 @@
-"""Judges of one's own, good and bad: what the script `view` makes of what they say, and of a disk that is full."""
+"""Judges of custom objects, good and bad: what the script `view` makes of their answers, and of a full disk."""
 import os
 import re
 import shlex
@@ -15,9 +15,9 @@ from view.model import Model
 from view.verdict import by_judge
 from models import Wrong, check_model, same
 
-OWN = ROOT / "examples/custom/records"
-RIGHT = OWN / "runq_right"
-# What examples/custom/custom.c says of runq_lower_first (examples/custom/README.md).
+CUSTOM = ROOT / "examples/custom/records"
+RIGHT = CUSTOM / "runq_right"
+# An answer as of examples/custom/custom.c on runq_lower_first.
 WITNESS = """unsound: log ready event 6 step 1: wrong step
 a thread of a higher priority waits:
   event 1: 0 put 3 1 = ok
@@ -27,7 +27,7 @@ right would have been: thread 2, or another that waits with priority 4
 """
 MARKUP = "<script>document.title = 'taken'</script><img src=x onerror=alert(1)> \"quoted\" & 'more' ]]> </svg> \x00\x1b[31m"
 WRONG = WITNESS.partition("\n")[0]
-# What a judge does, and the cause of the refusal: a script of sh, which reads the record first.
+# What a judge does, a script of sh that reads the record first; and the cause of the refusal.
 BAD = {
     "echo sound; echo cpu 0 entry 1": "it is of another record",
     "echo unsound: log nothere event 1 step 1: wrong step": "it is of another record",
@@ -64,8 +64,8 @@ class Judge:
 
 
 def check_witness(judge):
-    """Just the witness is drawn, in frames, and the judge's reasons."""
-    picture = judge.said(OWN / "runq_lower_first", WITNESS, "timeline", "--svg")
+    """Only the witness is drawn, in frames, and the judge's reasons."""
+    picture = judge.said(CUSTOM / "runq_lower_first", WITNESS, "timeline", "--svg")
     words = [it.text for it in xml.fromstring(picture).iter("{http://www.w3.org/2000/svg}text")]
     events = [it for it in words if re.fullmatch(r"event \d+", it)]
     same(events == ["event 1", "event 2", "event 6"], f"other events: {events}")
@@ -74,23 +74,23 @@ def check_witness(judge):
 
 
 def check_markup(judge):
-    """A judge's words are text, and no more of them is shown than one reads."""
+    """A judge's words are text, and of long ones only a part is shown."""
     said = f"{WRONG}\n{MARKUP}\n" + "reason " * 200_000 + "\n" + "more\n" * 100_000
     for words in ("timeline", "--svg"), ("timeline",):
-        drawn = judge.said(OWN / "runq_lower_first", said, *words)
+        drawn = judge.said(CUSTOM / "runq_lower_first", said, *words)
         same(len(drawn) < 120_000, f"it has {len(drawn):,} letters")
         same("<script>document.title" not in drawn and "<img" not in drawn, "a judge's words are markup")
-        same("\x00" not in drawn and "\x1b" not in drawn, "letters that can't be seen are there")
-    words = "".join(xml.fromstring(judge.said(OWN / "runq_lower_first", said, "timeline", "--svg")).itertext())
+        same("\x00" not in drawn and "\x1b" not in drawn, "it has control characters")
+    words = "".join(xml.fromstring(judge.said(CUSTOM / "runq_lower_first", said, "timeline", "--svg")).itertext())
     same("<script>document.title = 'taken'</script>" in words and "more lines" in words, "a judge's words aren't shown")
 
 
 def check_refused(judge):
-    """What is no verdict of this record is refused by a line, and nothing is written."""
+    """An answer that isn't a verdict on this record is refused by a line, and nothing is written."""
     for script, cause in BAD.items():
-        ran = judge.view(OWN / "runq_lower_first", script, "timeline", timeout=30)
-        told = (ran.returncode, ran.stdout, ran.stderr.decode())
-        same(told == (2, b"", f"view: E16 verdict: {cause}\n"), f"{script}: {told}")
+        ran = judge.view(CUSTOM / "runq_lower_first", script, "timeline", timeout=30)
+        ended = (ran.returncode, ran.stdout, ran.stderr.decode())
+        same(ended == (2, b"", f"view: E16 verdict: {cause}\n"), f"{script}: {ended}")
 
 
 def check_never(_):
@@ -108,14 +108,14 @@ def check_never(_):
 
 
 def check_missing(judge):
-    ran = subprocess.run([ROOT / "view/view", "timeline", "--judge", "./not_there", OWN / "runq_right"], capture_output=True)
+    ran = subprocess.run([ROOT / "view/view", "timeline", "--judge", "./not_there", CUSTOM / "runq_right"], capture_output=True)
     same(b"E16 verdict: ./not_there can't be started" in ran.stderr and ran.returncode == 2, f"{ran.stderr!r}")
 
 
 def check_orders(judge):
     """A judge's order and cycle are drawn, and its trace; without a judge they are the same."""
     for name, status in ("runq_right", 0), ("two_cycle", 1):
-        record = OWN / name
+        record = CUSTOM / name
         alone = Model(read_record(record.read_bytes()), None)
         lines = "\n".join(f"cpu {cpu} entry {entry}" for cpu, entry in alone.order or alone.verdict.cycle)
         said = "sound\n" + ("" if alone.order else "cycle:\n") + f"{lines}\n"
@@ -128,14 +128,14 @@ def check_orders(judge):
         same(is_so, f"the trace has status {ran.returncode}: {ran.stderr!r}")
 
 
-def check_own(_):
-    """Each record of objects of one's own is drawn as it is, without a judge."""
-    for file in sorted(OWN.iterdir()):
+def check_custom(_):
+    """Each record of custom objects is drawn without a judge."""
+    for file in sorted(CUSTOM.iterdir()):
         if file.name not in ("no_model_cut", "no_refuses_line"):
             check_model(Model(read_record(file.read_bytes()), None))
 
 
-# What sh does to the standard streams, the words of view, its status, and its line, or None where that can't be seen.
+# What sh does to the standard streams, the words of view, its status, and its line, or None if it can't be seen.
 STREAMS = [
     *((">/dev/full", [*it, RIGHT], 3, "E13 write failed") for it in (["timeline"], ["timeline", "--svg"], ["trace"])),
     ("<&-", ["timeline"], 3, "E12 read failed"),
@@ -151,7 +151,7 @@ PROBE = "import os; from view.streams import open_streams; open_streams(); print
 
 
 def long_lines(count):
-    """A record 3 of so many entries, each of some 5,500 bytes."""
+    """A record 3 of this many entries, each of some 5,500 bytes."""
     call = "a" * 16 + " 1234567890123456789" * 6
     asked, done = " ; ".join([call] * 8), " ; ".join([f"{call} = {call}"] * 8)
     log, entries = f"0 {done}\n" * count, f"q 0 {asked} | {done}\n" * count
@@ -161,7 +161,7 @@ def long_lines(count):
 
 def check_streams(judge):
     """Standard streams that are full or closed."""
-    # (what is said of the time that a large record takes doesn't get into the copy that a judge reads)
+    # (the line about the time that a large record takes doesn't get into the copy that a judge reads)
     large = judge.file.with_name("large")
     large.write_text(long_lines(1_000))
     said = "unsound: log q event 1: unclaimed"
@@ -179,9 +179,9 @@ def check_streams(judge):
         same((ran.returncode, ran.stderr) == (status, said), f"{words} {streams}: {ran.returncode}, {ran.stderr!r}")
 
 
-CHECKS = {"a witness": check_witness, "markup": check_markup, "what is no verdict": check_refused,
-          "a judge that never ends": check_never, "a judge that isn't there": check_missing,
-          "a judge's order and cycle": check_orders, "records 3": check_own, "closed and full streams": check_streams}
+CHECKS = {"a witness": check_witness, "markup": check_markup, "no verdict": check_refused,
+          "a judge that never ends": check_never, "a judge that doesn't exist": check_missing,
+          "a judge's order and cycle": check_orders, "records 3": check_custom, "closed and full streams": check_streams}
 
 
 def check_judges(checks):

@@ -10,7 +10,7 @@ from view.pages import steps_page, timeline
 from view.verdict import by_mc2, by_said
 from browser import Browser, Lost
 from drawn import record_of, shown_run
-from judges import MARKUP, OWN, WRONG
+from judges import MARKUP, CUSTOM, WRONG
 from models import same
 from parts import part_of
 
@@ -103,7 +103,7 @@ def check_around(pages):
 
 def check_markup(pages):
     """A judge's words don't become a part of the page."""
-    text = (OWN / "runq_lower_first").read_bytes()
+    text = (CUSTOM / "runq_lower_first").read_bytes()
     model = Model(read_record(text), by_said(f"{WRONG}\n{MARKUP}\n".encode()))
     pages.walk(model)
     same(pages.browser.run("document.title") == model.title(), "a judge's words were run")

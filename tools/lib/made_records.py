@@ -5,7 +5,7 @@ import zlib
 from dataclasses import dataclass
 
 CALLS, REPLIES, REFUSING = ["a", "b 1"], ["ok", "no", "ok 7"], {"no"}
-# One step in so many is wrong by the model.
+# One step in this many is wrong by the model.
 WRONG_OF = 12
 
 # ---- Small records: a model is a function from steps to right or wrong.
@@ -13,8 +13,8 @@ WRONG_OF = 12
 
 @dataclass
 class Small:
-    """Steps are pairs of call and reply, an event is a CPU with its steps, an entry an object with what was asked and done.
-    Without a seed each step is right."""
+    """Steps are pairs of call and reply, an event is a CPU with its steps, an entry an object with the calls that were asked for and
+    the steps that were done. Without a seed each step is right."""
 
     seed: int | None
     limits: list
@@ -26,9 +26,9 @@ class Small:
         lines += [f"object o{x} any {most} k 3" for x, most in enumerate(self.limits)] + [f"refuses {' '.join(REFUSING)}"]
         for x, log in enumerate(self.logs):
             lines += [f"log o{x} {len(log)}"] + [f"{cpu} {spelled(steps)}" for cpu, steps in log]
-        for cpu, own in enumerate(self.transcripts):
-            lines.append(f"cpu {cpu} {len(own)}")
-            lines += [f"o{x} 0 {' ; '.join(asked)} | {'noroom' if done is None else spelled(done)}" for x, asked, done in own]
+        for cpu, entries in enumerate(self.transcripts):
+            lines.append(f"cpu {cpu} {len(entries)}")
+            lines += [f"o{x} 0 {' ; '.join(asked)} | {'noroom' if done is None else spelled(done)}" for x, asked, done in entries]
         return ("\n".join([*lines, "end"]) + "\n").encode()
 
     def is_right(self, x, steps):
@@ -46,7 +46,7 @@ def spelled(steps):
 
 
 def answers(asked, chosen):
-    """Steps that answer what was asked, up to one that refuses."""
+    """Steps that answer these calls, up to one that refuses."""
     steps = []
     for call in asked:
         steps.append((call, chosen.choice(REPLIES)))
@@ -66,9 +66,9 @@ def do_entry(record, chosen):
 
 def shuffle(record, chosen):
     """Puts each CPU's entries in another order, but for those on one object: then the record is sound, and may have a cycle."""
-    for own in record.transcripts:
-        queues = [[it for it in own if it[0] == x] for x in range(len(record.logs))]
-        own[:] = [chosen.choice([it for it in queues if it]).pop(0) for _ in own]
+    for entries in record.transcripts:
+        queues = [[it for it in entries if it[0] == x] for x in range(len(record.logs))]
+        entries[:] = [chosen.choice([it for it in queues if it]).pop(0) for _ in entries]
 
 
 def swap(items, at):
@@ -76,27 +76,27 @@ def swap(items, at):
 
 
 def spoil(record, chosen):
-    """Changes one thing, if it is there."""
-    own, x = chosen.choice(record.transcripts), chosen.randrange(len(record.logs))
+    """Changes one thing, if the record has it."""
+    entries, x = chosen.choice(record.transcripts), chosen.randrange(len(record.logs))
     log, what = record.logs[x], chosen.randrange(11)
-    if what in (0, 9, 10) and len(own) > 1:
-        swap(own, chosen.randrange(len(own) - 1))
+    if what in (0, 9, 10) and len(entries) > 1:
+        swap(entries, chosen.randrange(len(entries) - 1))
     elif what == 1 and len(log) > 1:
         swap(log, 0)
-    elif what == 2 and own:
-        own.pop(chosen.randrange(len(own)))
+    elif what == 2 and entries:
+        entries.pop(chosen.randrange(len(entries)))
     elif what == 3 and log:
         log.pop(chosen.randrange(len(log)))
     elif what == 4:
         record.limits[x] = max(1, record.limits[x] + chosen.choice([-1, 1]))
-    elif what == 5 and own:
-        own[-1] = (own[-1][0], own[-1][1], None)
-    elif what == 6 and own:
-        own[-1] = (own[-1][0], own[-1][1] + ["a"], own[-1][2])
+    elif what == 5 and entries:
+        entries[-1] = (entries[-1][0], entries[-1][1], None)
+    elif what == 6 and entries:
+        entries[-1] = (entries[-1][0], entries[-1][1] + ["a"], entries[-1][2])
     elif what == 7 and log:
         log[-1] = (log[-1][0], log[-1][1] + [("a", "ok")])
-    elif what == 8 and own:
-        own.append(own[-1])
+    elif what == 8 and entries:
+        entries.append(entries[-1])
 
 
 def make(chosen):
@@ -112,7 +112,7 @@ def make(chosen):
     return record
 
 
-def tell_counts(record, chosen):
+def draw_counts(record, chosen):
     """The counts of the model; now and then one is missing, one too many, or above the steps of its log."""
     counts = [record.count(x) for x in range(len(record.logs))]
     what = chosen.randrange(40)
@@ -206,7 +206,7 @@ FAULTS = {"buffer": ("lost", "overtaken", "one too many", "torn", "twice"),
 
 
 def buffer(fault, chosen):
-    """The lines of a buffer with that fault, and the numbers of those that have to be named. An item is its line and a number."""
+    """The lines of a buffer with that fault, and the numbers of the lines that have to be named. An item is its line and a number."""
     items, lines, culprits = [], [], set()
     while not culprits or len(lines) < max(culprits) + 4 * ROOM:
         due, now, what = not culprits and len(lines) > STEPS, len(lines) + 1, chosen.choice(("put", "put", "get", "get", "level"))
@@ -216,7 +216,7 @@ def buffer(fault, chosen):
             line = f"put {now} {now * 7} = {'full' if is_full else 'ok'}"
             if due and (fault == "lost" and 1 < len(items) < 4 or len(items) == ROOM and not is_full):
                 culprits = {now}
-            # (an item that is lost isn't there)
+            # (a lost item isn't in the buffer)
             items += [now] if not is_full and culprits != {now} or fault == "one too many" and not is_full else []
         elif what == "get" and items and due and fault == "overtaken":
             culprits = {items[0], now}
@@ -233,24 +233,24 @@ def buffer(fault, chosen):
 
 
 def refs(fault, chosen):
-    """The same of references. The last line is told otherwise than it is, or the one before it of that slot was."""
-    own, lines, culprits, last = [[0] * CPUS for _ in range(SLOTS)], [], set(), {}
+    """The same of references. The last line has a wrong reply, or the line before it of that slot had."""
+    held, lines, culprits, last = [[0] * CPUS for _ in range(SLOTS)], [], set(), {}
     while not culprits:
         cpu, slot, due = chosen.randrange(CPUS), chosen.randrange(SLOTS), len(lines) > STEPS
-        whole, (before, by, at) = sum(own[slot]), last.get(slot, ("", 0, 0))
-        drops = own[slot][cpu] and (whole == MOST_REFS or chosen.random() < 0.5)
+        whole, (before, by, at) = sum(held[slot]), last.get(slot, ("", 0, 0))
+        drops = held[slot][cpu] and (whole == MOST_REFS or chosen.random() < 0.5)
         what, now = ("drop", whole - 1) if drops else ("keep" if whole else "make", whole + 1)
         if now > MOST_REFS:
             continue
         if due and f"{what} lost" == f"{before} lost" == fault and now > 0:
             now, culprits = now + (1 if drops else -1), {at, len(lines) + 1}
-        elif due and fault == "dropped twice" and before == "drop" and own[slot][by] == 0 and whole > 1:
+        elif due and fault == "dropped twice" and before == "drop" and held[slot][by] == 0 and whole > 1:
             cpu, what, now, culprits = by, "drop", whole - 1, {len(lines) + 1}
         elif due and (fault, what, now) == ("gone too early", "drop", 1):
             now, culprits = 0, {len(lines) + 1}
         elif due and (fault, what, before) == ("kept when gone", "make", "drop"):
             what, culprits = "keep", {len(lines) + 1}
-        own[slot][cpu] += -1 if what == "drop" else 1
+        held[slot][cpu] += -1 if what == "drop" else 1
         lines.append(f"{cpu} {what} {cpu} {slot} = now {now}")
         last[slot] = what, cpu, len(lines)
     return lines, culprits
@@ -262,6 +262,6 @@ def planted(kind, fault, seed):
     text = f"record 3\ncpus {CPUS}\nobjects 1\nobject x ticket 65536 {kind} {ROOM if kind == 'buffer' else SLOTS}\nrefuses\n"
     text += f"log x {len(lines)}\n" + "".join(f"{it}\n" for it in lines)
     for cpu in range(CPUS):
-        own = [it.partition(" ")[2] for it in lines if it.startswith(f"{cpu} ")]
-        text += f"cpu {cpu} {len(own)}\n" + "".join(f"x 1 {it.partition(' = ')[0]} | {it}\n" for it in own)
+        entries = [it.partition(" ")[2] for it in lines if it.startswith(f"{cpu} ")]
+        text += f"cpu {cpu} {len(entries)}\n" + "".join(f"x 1 {it.partition(' = ')[0]} | {it}\n" for it in entries)
     return (text + "end\n").encode(), lines, culprits

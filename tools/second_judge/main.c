@@ -2,7 +2,7 @@
 
    Judges a record 1 or 2 of FILE, or of standard input: `audit` prints its verdict, `merge` one order of its entries. Streams
    and statuses are those of mc2. */
-#define IS_OWN 0
+#define IS_CUSTOM 0
 #include "judge.h"
 #include "order.h"
 #include <errno.h>
@@ -144,12 +144,12 @@ static int print_order(const struct record *r, const struct front *front) {
 }
 
 static int refuse_cycle(const struct record *r, const struct front *front) {
-    struct mc2_entry_id room[64];
-    struct mc2_report told;
-    tell_cycle(r, front, room, 64, &told);
+    struct mc2_entry_id order[64];
+    struct mc2_report out;
+    report_cycle(r, front, order, 64, &out);
     fprintf(stderr, "mc2: E11 cycle:");
-    for (uint64_t at = 0; at < told.first; at++) {
-        unsigned long long cpu = room[at].cpu, entry = room[at].entry + 1;
+    for (uint64_t at = 0; at < out.first; at++) {
+        unsigned long long cpu = order[at].cpu, entry = order[at].entry + 1;
         fprintf(stderr, "%s cpu %llu entry %llu", at > 0 ? "," : "", cpu, entry);
     }
     fprintf(stderr, "\n");

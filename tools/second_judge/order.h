@@ -1,11 +1,11 @@
-/* One order of a sound record's entries, or a cycle. Each place goes to the least CPU whose next entry can come. */
+/* One order of a sound record's entries, or a cycle. Each place goes to the lowest CPU whose next entry can come. */
 #ifndef SECOND_JUDGE_ORDER_H
 #define SECOND_JUDGE_ORDER_H
 
 #include "record.h"
 #include <stdlib.h>
 
-enum { SET_WORDS = (IS_OWN ? MC2_CUSTOM_CPUS : 64) / 64 };
+enum { SET_WORDS = (IS_CUSTOM ? MC2_CUSTOM_CPUS : 64) / 64 };
 
 /* A set of CPUs. */
 struct set {
@@ -15,7 +15,7 @@ struct set {
 struct front {
     /* How many entries of each CPU were placed, and how many events of each object. */
     uint64_t at[MC2_CUSTOM_CPUS], placed[MC2_CUSTOM_OBJECTS];
-    /* Whose next entry can come, and who waits until an object's log is at its end. */
+    /* The CPUs whose next entry can come, and those that wait until an object's log is at its end. */
     struct set ready, waiting[MC2_CUSTOM_OBJECTS];
     /* The CPU of each place. */
     uint8_t order[];
@@ -28,7 +28,7 @@ static void add_all(struct set *set, const struct set *more) {
         set->bits[at] |= more->bits[at];
 }
 
-/* Takes the least, or says that there is none. */
+/* Takes the lowest CPU; MC2_CUSTOM_CPUS if there is none. */
 static uint32_t take_least(struct set *set) {
     uint32_t at = 0;
     while (at < SET_WORDS && set->bits[at] == 0)
@@ -47,7 +47,7 @@ static bool next_entry(const struct record *r, const struct front *front, uint32
     return at < r->firsts[cpu + 1];
 }
 
-/* The CPU of the object's next event, or that of no CPU. */
+/* The CPU of the object's next event; MC2_CUSTOM_CPUS if it has none. */
 static uint32_t next_of(const struct record *r, const struct front *front, uint32_t x) {
     size_t at = r->begins[x] + front->placed[x];
     return at < r->begins[x + 1] ? r->events[at].cpu : MC2_CUSTOM_CPUS;
@@ -66,7 +66,7 @@ static void look(const struct record *r, struct front *front, uint32_t cpu) {
         add(&front->waiting[x], cpu);
 }
 
-/* Places the CPU's next entry, and looks who can come now. */
+/* Places the CPU's next entry, and looks which CPUs can come now. */
 static void place(const struct record *r, struct front *front, uint32_t cpu) {
     uint16_t entry, other;
     next_entry(r, front, cpu, &entry);
@@ -99,7 +99,7 @@ static struct front *put_in_order(const struct record *r, size_t *count) {
     return front;
 }
 
-/* Whom the CPU waits for, which has an entry left. */
+/* The CPU that this one waits for. It has an entry left. */
 static uint32_t waits_for(const struct record *r, const struct front *front, uint32_t cpu) {
     uint16_t entry;
     next_entry(r, front, cpu, &entry);
@@ -114,7 +114,7 @@ static uint32_t first_left(const struct record *r, const struct front *front) {
     return cpu;
 }
 
-/* A CPU of the cycle that is found from the least CPU with entries left: it is one after as many steps as there are CPUs. */
+/* A CPU of the cycle that is found from the lowest CPU with entries left: it is in the cycle after as many steps as there are CPUs. */
 static uint32_t one_of_cycle(const struct record *r, const struct front *front) {
     uint32_t cpu = first_left(r, front);
     for (uint32_t it = 0; it < r->cpus; it++)
@@ -129,15 +129,15 @@ static uint32_t least_of_cycle(const struct record *r, const struct front *front
     return least;
 }
 
-static void tell_cycle(const struct record *r, const struct front *front, struct mc2_entry_id *room, size_t turns,
-                       struct mc2_report *told) {
+static void report_cycle(const struct record *r, const struct front *front, struct mc2_entry_id *order, size_t capacity,
+                         struct mc2_report *out) {
     uint32_t least = least_of_cycle(r, front), cpu = least, count = 1;
     while ((cpu = waits_for(r, front, cpu)) != least)
         count++;
-    tell(told, count > turns ? MC2_NO_ROOM : MC2_CYCLE, count, 0, 0);
-    for (uint32_t at = 0; at < count && count <= turns; at++, cpu = waits_for(r, front, cpu)) {
-        room[at].cpu = cpu;
-        room[at].entry = front->at[cpu];
+    report(out, count > capacity ? MC2_NO_ROOM : MC2_CYCLE, count, 0, 0);
+    for (uint32_t at = 0; at < count && count <= capacity; at++, cpu = waits_for(r, front, cpu)) {
+        order[at].cpu = cpu;
+        order[at].entry = front->at[cpu];
     }
 }
 

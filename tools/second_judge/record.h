@@ -48,21 +48,21 @@ struct record {
     uint16_t *entries;
     size_t entry_count, entry_room, firsts[MC2_CUSTOM_CPUS + 1];
     bool keeps_entries, has_no_memory;
-    /* What the caller says of a record 3. */
+    /* The counts that the caller gives for a record 3. */
     const uint64_t *right;
     size_t counts;
-    /* What the objects of a record 1 or 2 are opened with, and that one whose log is read. */
+    /* The parameters of the objects of a record 1 or 2, and the object whose log is read. */
     struct params params[16];
     struct object object;
     /* The first fault. */
     struct mc2_report fault;
 };
 
-static void tell(struct mc2_report *told, uint32_t kind, uint64_t first, uint64_t second, uint64_t third) {
-    told->kind = kind;
-    told->first = first;
-    told->second = second;
-    told->third = third;
+static void report(struct mc2_report *out, uint32_t kind, uint64_t first, uint64_t second, uint64_t third) {
+    out->kind = kind;
+    out->first = first;
+    out->second = second;
+    out->third = third;
 }
 
 #endif

@@ -1,8 +1,8 @@
 #!/usr/bin/env python3
 """use: rows.py PROGRAM
 
-Has the second judge audit and merge what rows of mc2 do: it has to print what they want, and to end with their status. Rows of
-words that are refused are left out, as it knows no other words."""
+Has the second judge audit and merge the records that rows of mc2 do: it has to print what they want, and to end with their
+status. Rows whose words are refused are left out, as the second judge has fewer words."""
 import sys
 from pathlib import Path
 

@@ -1,14 +1,14 @@
-/* The functions of include/mc2_custom.h in plain C. They are linked where the proved library isn't built, judge beside it in
-   tests/c/judge, and are measured beside it in tools/measure/judges. Nothing here is proved.
+/* The functions of include/mc2_custom.h in plain C. They are linked where the proved library isn't built. tests/c/judge compares
+   them with it, and tools/measure/judges measures both. Nothing here is proved.
 
-   For a line that is no event mc2_custom_line may write a part of one, which the caller must not read. */
-#define IS_OWN 1
+   For a line that isn't an event mc2_custom_line may write a part of one, which the caller must not read. */
+#define IS_CUSTOM 1
 #include "judge.h"
 #include "order.h"
 
 /* ---- Lines */
 
-static const uint8_t *said_in(const uint8_t *p, struct mc2_custom_term *it) {
+static const uint8_t *term_in(const uint8_t *p, struct mc2_custom_term *it) {
     memset(it->numbers, 0, sizeof it->numbers);
     return numbers(word_in(p, it->word), MC2_CUSTOM_NUMBERS, &it->count, it->numbers);
 }
@@ -20,7 +20,7 @@ static bool event_in(const uint8_t *p, struct mc2_custom_line *line) {
     line->count = 0;
     for (const uint8_t *more = p; line->count == 0 || (more && line->count < MC2_CUSTOM_CALLS); more = mark(p, ';')) {
         struct mc2_custom_step *step = &line->steps[line->count++];
-        p = said_in(mark(said_in(more, &step->call), '='), &step->reply);
+        p = term_in(mark(term_in(more, &step->call), '='), &step->reply);
     }
     return end_of(p) != NULL;
 }
@@ -44,11 +44,11 @@ void mc2_custom_line(const uint8_t *text, size_t length, size_t at, struct mc2_c
 /* ---- The kinds that mc2 has */
 
 /* Whether this is the word of the entry, with numbers in its range. */
-static bool fits(const struct mc2_custom_term *said, const struct spelling *it) {
-    for (uint64_t at = 0; at < said->count; at++)
-        if (said->numbers[at] > it->most)
+static bool fits(const struct mc2_custom_term *term, const struct spelling *it) {
+    for (uint64_t at = 0; at < term->count; at++)
+        if (term->numbers[at] > it->most)
             return false;
-    return it->length > 0 && said->word[it->length] == 0 && said->count == it->numbers;
+    return it->length > 0 && term->word[it->length] == 0 && term->count == it->numbers;
 }
 
 static bool is_right_step(struct object *object, const struct mc2_custom_step *step) {
@@ -75,64 +75,64 @@ static uint64_t count_log(const uint8_t *text, size_t length, struct mc2_custom_
     return right;
 }
 
-void mc2_custom_kernel(const uint8_t *text, size_t length, size_t object, size_t log, struct mc2_report *told) {
+void mc2_custom_kernel(const uint8_t *text, size_t length, size_t object, size_t log, struct mc2_report *out) {
     struct mc2_custom_line line;
     struct params params;
     struct object *it = NULL;
-    tell(told, MC2_NO_MODEL, 0, 0, 0);
+    report(out, MC2_NO_MODEL, 0, 0, 0);
     mc2_custom_line(text, length, object, &line);
     if (line.kind != MC2_CUSTOM_OBJECT || !take_params(line.object_kind, line.numbers, line.count, &params))
         return;
     mc2_custom_line(text, length, log, &line);
     if (line.kind != MC2_CUSTOM_LOG)
         return;
-    tell(told, MC2_OUT_OF_MEMORY, 0, 0, 0);
+    report(out, MC2_OUT_OF_MEMORY, 0, 0, 0);
     if (!(it = malloc(sizeof *it)))
         return;
     open_object(it, &params);
-    tell(told, MC2_CUSTOM_COUNTED, count_log(text, length, &line, it), 0, 0);
+    report(out, MC2_CUSTOM_COUNTED, count_log(text, length, &line, it), 0, 0);
     free(it);
 }
 
 /* ---- Records */
 
-void mc2_custom_audit(const uint8_t *text, size_t length, const uint64_t *right, size_t objects, struct mc2_report *told) {
+void mc2_custom_audit(const uint8_t *text, size_t length, const uint64_t *right, size_t objects, struct mc2_report *out) {
     struct record *r = malloc(sizeof *r);
-    tell(told, MC2_OUT_OF_MEMORY, 0, 0, 0);
+    report(out, MC2_OUT_OF_MEMORY, 0, 0, 0);
     if (!r)
         return;
     judge(r, text, length, right, objects, false);
-    *told = r->fault;
+    *out = r->fault;
     drop(r);
     free(r);
 }
 
-static void tell_order(const struct record *r, const struct front *front, struct mc2_entry_id *room, size_t turns,
-                       struct mc2_report *told) {
+static void report_order(const struct record *r, const struct front *front, struct mc2_entry_id *order, size_t capacity,
+                         struct mc2_report *out) {
     uint64_t at[MC2_CUSTOM_CPUS] = {0};
-    tell(told, r->entry_count > turns ? MC2_NO_ROOM : MC2_SOUND, r->entry_count, 0, 0);
-    for (size_t n = 0; n < r->entry_count && r->entry_count <= turns; n++) {
-        room[n].cpu = front->order[n];
-        room[n].entry = at[front->order[n]]++;
+    report(out, r->entry_count > capacity ? MC2_NO_ROOM : MC2_SOUND, r->entry_count, 0, 0);
+    for (size_t n = 0; n < r->entry_count && r->entry_count <= capacity; n++) {
+        order[n].cpu = front->order[n];
+        order[n].entry = at[front->order[n]]++;
     }
 }
 
-void mc2_custom_merge(const uint8_t *text, size_t length, const uint64_t *right, size_t objects, struct mc2_entry_id *room,
-                   size_t turns, struct mc2_report *told) {
+void mc2_custom_merge(const uint8_t *text, size_t length, const uint64_t *right, size_t objects, struct mc2_entry_id *order,
+                      size_t capacity, struct mc2_report *out) {
     struct record *r = malloc(sizeof *r);
     struct front *front = NULL;
     size_t placed = 0;
-    tell(told, MC2_OUT_OF_MEMORY, 0, 0, 0);
+    report(out, MC2_OUT_OF_MEMORY, 0, 0, 0);
     if (!r)
         return;
     judge(r, text, length, right, objects, true);
-    *told = r->fault;
-    if (told->kind == MC2_SOUND && !(front = put_in_order(r, &placed)))
-        tell(told, MC2_OUT_OF_MEMORY, 0, 0, 0);
-    else if (told->kind == MC2_SOUND && placed == r->entry_count)
-        tell_order(r, front, room, turns, told);
-    else if (told->kind == MC2_SOUND)
-        tell_cycle(r, front, room, turns, told);
+    *out = r->fault;
+    if (out->kind == MC2_SOUND && !(front = put_in_order(r, &placed)))
+        report(out, MC2_OUT_OF_MEMORY, 0, 0, 0);
+    else if (out->kind == MC2_SOUND && placed == r->entry_count)
+        report_order(r, front, order, capacity, out);
+    else if (out->kind == MC2_SOUND)
+        report_cycle(r, front, order, capacity, out);
     free(front);
     drop(r);
     free(r);

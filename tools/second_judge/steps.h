@@ -7,7 +7,7 @@
 
 static inline struct name name_of(const struct record *r, struct span span) {
     uint8_t bytes[MC2_CUSTOM_LETTERS];
-    if (!IS_OWN || r->end - span.at >= MC2_CUSTOM_LETTERS)
+    if (!IS_CUSTOM || r->end - span.at >= MC2_CUSTOM_LETTERS)
         return name_at(span.at, span.length);
     memcpy(bytes, span.at, span.length);
     return name_at(bytes, span.length);
@@ -40,20 +40,20 @@ struct steps {
 };
 
 static inline const uint8_t *read_call(const uint8_t *p, struct step *step) {
-    return IS_OWN ? said(p, &step->word) : kernel_call(p, &step->call);
+    return IS_CUSTOM ? read_term(p, &step->word) : kernel_call(p, &step->call);
 }
 
 /* A record 1 has no quotas, and so none of their replies. */
 static inline const uint8_t *read_reply(const struct record *r, const uint8_t *p, struct step *step) {
-    if (IS_OWN)
-        return said(p, &step->word);
+    if (IS_CUSTOM)
+        return read_term(p, &step->word);
     if (!p || !(p = kernel_reply(p, &step->reply)))
         return NULL;
     return step->reply.word == OVERQUOTA && r->form == 1 ? NULL : p;
 }
 
 static inline bool has_refused(const struct record *r, const struct step *step) {
-    return IS_OWN ? is_refusing(r, step->word) : reply_words[step->reply.word].of;
+    return IS_CUSTOM ? is_refusing(r, step->word) : reply_words[step->reply.word].of;
 }
 
 static inline const uint8_t *read_calls(const uint8_t *p, struct calls *all) {

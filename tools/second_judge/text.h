@@ -1,5 +1,5 @@
-/* Words and numbers, and the lines that all records have. Each reader gets where something begins and returns where it ends, or
-   NULL. All that is read has a line end after it, which no reader passes but end_of, so none looks for the end of the text. */
+/* Words and numbers, and the lines that all records have. Each reader gets the place where something begins, and returns where it
+   ends, or NULL. The text ends with a line end, and only end_of passes one, so no reader looks for the end of the text. */
 #ifndef SECOND_JUDGE_TEXT_H
 #define SECOND_JUDGE_TEXT_H
 
@@ -38,14 +38,14 @@ static const uint8_t sorts[256] = {
     ['s'] = LETTER, ['t'] = LETTER, ['u'] = LETTER, ['v'] = LETTER, ['w'] = LETTER, ['x'] = LETTER, ['y'] = LETTER,
     ['z'] = LETTER};
 
-/* Just these bytes. */
-static inline const uint8_t *just(const uint8_t *p, const char *bytes) {
+/* Exactly these bytes. */
+static inline const uint8_t *exactly(const uint8_t *p, const char *bytes) {
     while (*bytes && *p == (uint8_t)*bytes)
         p++, bytes++;
     return *bytes ? NULL : p;
 }
 
-/* All that follow take NULL too, for what wasn't there, and return it then. */
+/* All readers below accept NULL, from a reader that failed, and then return NULL. */
 static inline const uint8_t *space(const uint8_t *p) { return p && *p == ' ' ? p + 1 : NULL; }
 
 /* One of `=`, `;` and `|` between spaces. */
@@ -91,7 +91,7 @@ static inline const uint8_t *number(const uint8_t *p, uint64_t least, uint64_t m
     return p != from && (*from != '0' || p - from == 1) && sum >= least && sum <= most ? p : NULL;
 }
 
-/* Numbers behind spaces. */
+/* Numbers after spaces. */
 static inline const uint8_t *numbers(const uint8_t *p, uint32_t most, uint64_t *count, uint64_t *values) {
     *count = 0;
     while (p && *p == ' ' && sorts[p[1]] == DIGIT)
@@ -100,7 +100,7 @@ static inline const uint8_t *numbers(const uint8_t *p, uint32_t most, uint64_t *
 }
 
 /* A call or a reply of a record 3: a word and its numbers, whose values aren't needed. */
-static inline const uint8_t *said(const uint8_t *p, struct span *span) {
+static inline const uint8_t *read_term(const uint8_t *p, struct span *span) {
     uint32_t count = 0;
     p = word(p, span);
     while (p && *p == ' ' && sorts[p[1]] == DIGIT)
@@ -110,7 +110,7 @@ static inline const uint8_t *said(const uint8_t *p, struct span *span) {
 
 /* ---- With values. */
 
-/* Puts the word, with zeros behind it. */
+/* Writes the word, with zeros after it. */
 static inline void put_word(struct span span, uint8_t *padded) {
     memset(padded, 0, MC2_CUSTOM_LETTERS);
     for (uint32_t at = 0; at < span.length; at++)
@@ -126,14 +126,14 @@ static inline const uint8_t *word_in(const uint8_t *p, uint8_t *padded) {
 }
 
 static inline bool object_in(const uint8_t *p, struct mc2_custom_line *line, uint8_t *lock) {
-    p = space(word_in(just(p, "object "), line->name));
+    p = space(word_in(exactly(p, "object "), line->name));
     p = number(space(word_in(p, lock)), 1, UINT32_MAX, &line->limit);
     p = word_in(space(p), line->object_kind);
     return end_of(numbers(p, MC2_CUSTOM_SIZES, &line->count, line->numbers)) != NULL;
 }
 
 static inline bool log_in(const uint8_t *p, struct mc2_custom_line *line) {
-    p = word_in(just(p, "log "), line->name);
+    p = word_in(exactly(p, "log "), line->name);
     return end_of(number(space(p), 0, UINT32_MAX, &line->limit)) != NULL;
 }
 

@@ -1,13 +1,13 @@
 #!/usr/bin/env python3
-"""use: beside_mc2.py [--each N] audit|merge|refusals|rust|own PROGRAM
+"""use: beside_mc2.py [--each N] audit|merge|refusals|rust|custom PROGRAM
 
-Judges texts by a program over libjudge.a, and compares what it is told with what $MC2 answers. The texts are the records of
+Judges texts by a program over libjudge.a, and compares its reports with the answers of $MC2. The texts are the records of
 examples/, and each text that a row has mc2 audit, merge or upgrade, good or bad. With --each only each N-th of them.
 
-  audit, merge  by examples/judge/judge.c, eight texts at once, each on a thread of its own
-  refusals      by refusals.c, where each block of memory is refused; and once more four texts that take much memory
-  rust          by examples/judge/judge.rs, which ends with 0 if the record is sound, and else with 1
-  own           by examples/custom/custom.c the records 2 of rows, made records 3
+  audit, merge  by examples/judge/judge.c, eight texts at once, each on its own thread
+  refusals      by refusals.c, where each block of memory is refused; and texts that take much memory
+  rust          by examples/judge/judge.rs, which ends with 0 if the record is sound, and otherwise with 1
+  custom        by examples/custom/custom.c the records 2 of rows, made records 3
 """
 import os
 import sys
@@ -22,7 +22,7 @@ from rows import rows_of
 
 MC2, AT_ONCE = os.environ.get("MC2"), 8
 SOUND, CYCLE, BAD_LINE = 0, 7, 8
-# What mc2 says of a fault of that kind, and of its place.
+# The words of mc2 for each fault, with its place.
 FAULTS = {
     1: "log {x}: too long",
     2: "log {x} event {b} step {c}: wrong step",
@@ -45,12 +45,12 @@ def texts():
     return found
 
 
-# ---- Texts that take much memory for their length. A list of 8,193 lies in room for twice as many.
+# ---- Texts that take much memory for their length. A list of 8,193 has room for twice as many.
 
 
 def record_of(cpus, entries, events=False):
-    """A sound record of so many entries of each CPU, whose lines are the shortest there are. Each is an event; or else all but
-    the first have no room."""
+    """A sound record with this many entries of each CPU, whose lines are the shortest that are allowed. Each is an event; or all
+    but the first have no room."""
     step, limit = ("len = count 0", 65536) if events else ("deq = empty", 1)
     call, log = step.split(" ")[0], cpus * entries if events else 1
     text = f"record 2\ncpus {cpus}\nobjects 1\nobject a ticket {limit} queue 1\nlog a {log}\n"
@@ -68,11 +68,27 @@ def record_of_objects():
     return text + "".join(f"log {name} 0\n" for name in names) + "cpu 0 0\nend\n"
 
 
-# ---- What is told
+def cut_record(form, cpus, objects, of, count):
+    """A record that ends after the head of its last log, which says that this many events follow. The logs before it are empty."""
+    names = [f"o{x}" for x in range(objects)]
+    heads = "".join(f"object {name} ticket {max(count, 65536)} {of}\n" for name in names) + ("refuses\n" if form == 3 else "")
+    logs = "".join(f"log {name} 0\n" for name in names[:-1]) + f"log {names[-1]} {count}\n"
+    return f"record {form}\ncpus {cpus}\nobjects {objects}\n{heads}{logs}"
 
 
-def told(program, command, files):
-    """What the program in C is told of each file: the kind with its numbers, and the entries that follow."""
+def large_texts():
+    """Each text by a name."""
+    large = {"entries": record_of(8, 10_000), "list": record_of(1, 8_193), "events": record_of(8, 8_192, True)}
+    large |= {"scheds": record_of_objects(), "one head": cut_record(2, 1, 1, "queue 8", 65535)}
+    large |= {"16 objects": cut_record(2, 64, 16, "sched 1024 64", 65536), "any": cut_record(3, 256, 1, "any", 4294967295)}
+    return large | {"256 objects": cut_record(3, 256, 256, "any", 4294967295)}
+
+
+# ---- Reports
+
+
+def reports(program, command, files):
+    """What the program in C prints for each file: the kind with its numbers, and the entries that follow."""
     lines = run([program, command, *files], text=True).stdout.splitlines()
     answers = []
     while lines:
@@ -98,30 +114,30 @@ def parts(text):
     return names, entries
 
 
-def order_of(text, turns):
+def order_of(text, places):
     """What mc2 prints for these entries in order."""
     entries = parts(text)[1]
-    lines = [(cpu, entries[cpu][entry]) for cpu, entry in turns]
+    lines = [(cpu, entries[cpu][entry]) for cpu, entry in places]
     return "".join(f"{cpu} {line.split()[0]} {line.partition(' | ')[2]}\n" for cpu, line in lines)
 
 
-def wanted(command, text, kind, numbers, turns):
-    """What mc2 has to answer where this is told: the status, standard output and standard error."""
+def wanted(command, text, kind, numbers, places):
+    """What mc2 has to answer if this is the report: the status, standard output and standard error."""
     if kind == BAD_LINE:
         return 2, "", f"mc2: E9 record: line {numbers[0]}\n"
     if kind == CYCLE:
-        places = ", ".join(f"cpu {cpu} entry {entry + 1}" for cpu, entry in turns)
-        return 1, "", f"mc2: E11 cycle: {places}\n"
+        cycle = ", ".join(f"cpu {cpu} entry {entry + 1}" for cpu, entry in places)
+        return 1, "", f"mc2: E11 cycle: {cycle}\n"
     if kind in FAULTS:
         a, b, c = numbers
         name = "" if kind in (3, 4, 5) else parts(text)[0][a]
         fault = f"unsound: {FAULTS[kind].format(x=name, a=a, b=b + 1, c=c + 1)}\n"
         return (1, fault, "") if command == "audit" else (1, "", f"mc2: E10 {fault}")
-    return 0, order_of(text, turns) if command == "merge" else "sound\n", ""
+    return 0, order_of(text, places) if command == "merge" else "sound\n", ""
 
 
 def agree(command, text, answer):
-    """Whether mc2 answers what it has to. What is told may name an object or an entry that the text hasn't."""
+    """Whether mc2 answers what it has to. A wrong report may name an object or an entry that the text hasn't."""
     said = run([MC2, command], wanted=None, input=text)
     try:
         return (said.returncode, said.stdout.decode(), said.stderr.decode()) == wanted(command, text, *answer)
@@ -130,9 +146,8 @@ def agree(command, text, answer):
 
 
 def refuse(program, files, folder):
-    """Prints what refusals.c sees, and ends the tool at the first answer that can't be."""
-    large = {"entries": record_of(8, 10_000), "list": record_of(1, 8_193)}
-    large |= {"events": record_of(8, 8_192, True), "scheds": record_of_objects()}
+    """Prints what refusals.c sees, and ends the tool at the first answer that is impossible."""
+    large = large_texts()
     for name, text in large.items():
         (folder / name).write_text(text)
     for how, these in ("each", files), ("none", [folder / name for name in large]):
@@ -143,10 +158,10 @@ def judge(command, program, named, files):
     """A line for each text on which the program in C and mc2 differ."""
     wrong = []
     for begin in range(0, len(files), AT_ONCE):
-        answers = told(program, command, files[begin : begin + AT_ONCE])
+        answers = reports(program, command, files[begin : begin + AT_ONCE])
         for (name, text), answer in zip(list(named.items())[begin:], answers):
             if not agree(command, text, answer):
-                wrong.append(f"{command} of {name}: C is told {answer[:2]}")
+                wrong.append(f"{command} of {name}: C reports {answer[:2]}")
     return wrong
 
 
@@ -159,10 +174,10 @@ def judge_by_rust(program, named, files):
 def main():
     words = Words(__doc__)
     words.add_argument("--each", type=number(1, 1000), default=1)
-    words.add_argument("how", choices=("audit", "merge", "refusals", "rust", "own"))
+    words.add_argument("how", choices=("audit", "merge", "refusals", "rust", "custom"))
     words.add_argument("program")
     given = words.parse_args()
-    if given.how == "own":
+    if given.how == "custom":
         print(like_mc2(given.program))
         return 0
     named, wrong = dict(list(texts().items())[:: given.each]), []
@@ -176,7 +191,7 @@ def main():
             wrong = judge_by_rust(given.program, named, files)
         else:
             wrong = judge(given.how, given.program, named, files)
-    print(*wrong, f"{len(named)} texts, of which {len(wrong)} are told otherwise", sep="\n")
+    print(*wrong, f"{len(named)} texts, of which {len(wrong)} are judged otherwise", sep="\n")
     return 1 if wrong else 0
 
 

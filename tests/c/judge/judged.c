@@ -1,12 +1,12 @@
 /* use: judged < CASES
 
-   Judges texts by the three functions of mc2_custom.h, for CTest, and prints what is told. Each case is, as numbers of
-   64 bits, the length of a text, how many counts there are and how many places the room has; then the counts, and the text. For
-   each case a line is printed: the kind and the numbers that mc2_custom_audit tells, those that mc2_custom_merge tells, the places of
-   the room that it wrote, and a digest of what mc2_custom_line tells of each line, at its beginning and one byte further on.
+   Judges texts by the functions of mc2_custom.h, for CTest. Each case is, as numbers of 64 bits, the length of a text, the number
+   of counts and the number of places for an order; then the counts, and the text. For each case it prints a line: the kind and the
+   numbers of the report of mc2_custom_audit, and of mc2_custom_merge, the places that mc2_custom_merge wrote, and a digest of what
+   mc2_custom_line writes for each line, at its beginning and one byte further on.
 
-   The text ends where a page begins that nobody may read, and behind the room nothing may be written. The status is 0, 1 at the
-   first answer that can't be, and 3 where the system refuses something. */
+   The text ends at the beginning of a page that can't be read, and nothing may be written after the places. The status is 0; 1 at
+   the first answer that is impossible; 3 if the system refuses something. */
 #define _DEFAULT_SOURCE
 #include "mc2_custom.h"
 #include <stdio.h>
@@ -14,10 +14,10 @@
 #include <string.h>
 #include <sys/mman.h>
 
-enum { PAGE = 4096, MOST_TEXT = 1 << 16, MOST_TURNS = 128, UNTOUCHED = 0xa5 };
+enum { PAGE = 4096, MOST_TEXT = 1 << 16, MOST_PLACES = 128, UNTOUCHED = 0xa5 };
 
-static uint8_t *behind_text;
-static struct mc2_entry_id room[MOST_TURNS + 1];
+static uint8_t *text_end;
+static struct mc2_entry_id order[MOST_PLACES + 1];
 static uint64_t counts[2 * MC2_CUSTOM_OBJECTS];
 
 static void fail(const char *what, int status) {
@@ -27,12 +27,12 @@ static void fail(const char *what, int status) {
 
 static bool get(void *to, size_t bytes) { return fread(to, 1, bytes, stdin) == bytes; }
 
-/* The memory of the text, with a page behind it that nobody may read. */
+/* The memory of the text, with a page after it that can't be read. */
 static void open_text(void) {
     uint8_t *memory = mmap(NULL, MOST_TEXT + PAGE, PROT_READ | PROT_WRITE, MAP_PRIVATE | MAP_ANONYMOUS, -1, 0);
     if (memory == MAP_FAILED || mprotect(memory + MOST_TEXT, PAGE, PROT_NONE) != 0)
         fail("memory", 3);
-    behind_text = memory + MOST_TEXT;
+    text_end = memory + MOST_TEXT;
 }
 
 /* ---- The digest */
@@ -49,18 +49,18 @@ static void add_numbers(uint64_t *digest, const uint64_t *numbers, uint64_t coun
         add(digest, numbers[at]);
 }
 
-static void add_said(uint64_t *digest, const struct mc2_custom_term *said) {
-    add_word(digest, said->word);
-    add(digest, said->count);
-    add_numbers(digest, said->numbers, said->count);
+static void add_term(uint64_t *digest, const struct mc2_custom_term *term) {
+    add_word(digest, term->word);
+    add(digest, term->count);
+    add_numbers(digest, term->numbers, term->count);
 }
 
 static void add_event(uint64_t *digest, const struct mc2_custom_line *line) {
     add(digest, line->cpu);
     add(digest, line->count);
     for (uint64_t at = 0; at < line->count; at++) {
-        add_said(digest, &line->steps[at].call);
-        add_said(digest, &line->steps[at].reply);
+        add_term(digest, &line->steps[at].call);
+        add_term(digest, &line->steps[at].reply);
     }
 }
 
@@ -70,7 +70,7 @@ static void add_object(uint64_t *digest, const struct mc2_custom_line *line) {
     add_numbers(digest, line->numbers, line->count);
 }
 
-/* Adds what is told of the line at that byte. */
+/* Adds the fields that are written for the line at that byte. */
 static void add_line(uint64_t *digest, const uint8_t *text, size_t length, size_t at) {
     struct mc2_custom_line line;
     memset(&line, UNTOUCHED, sizeof line);
@@ -102,37 +102,37 @@ static uint64_t digest_of(const uint8_t *text, size_t length) {
 
 /* ---- The cases */
 
-static void put(const struct mc2_report *told) {
-    printf("%u %llu %llu %llu|", (unsigned)told->kind, (unsigned long long)told->first, (unsigned long long)told->second,
-           (unsigned long long)told->third);
+static void put(const struct mc2_report *report) {
+    printf("%u %llu %llu %llu|", (unsigned)report->kind, (unsigned long long)report->first, (unsigned long long)report->second,
+           (unsigned long long)report->third);
 }
 
-static void put_turns(size_t count) {
+static void put_places(size_t count) {
     for (size_t at = 0; at < count; at++)
-        printf("%llu.%llu ", (unsigned long long)room[at].cpu, (unsigned long long)room[at].entry);
+        printf("%llu.%llu ", (unsigned long long)order[at].cpu, (unsigned long long)order[at].entry);
 }
 
 static void check_untouched(size_t from) {
-    const uint8_t *bytes = (const uint8_t *)(room + from);
-    for (size_t at = 0; at < sizeof room - from * sizeof *room; at++)
+    const uint8_t *bytes = (const uint8_t *)(order + from);
+    for (size_t at = 0; at < sizeof order - from * sizeof *order; at++)
         if (bytes[at] != UNTOUCHED)
-            fail("it wrote behind what it told", 1);
+            fail("it wrote after the places that it reported", 1);
 }
 
-static void judge(const uint8_t *text, size_t length, size_t objects, size_t turns) {
-    struct mc2_report told;
-    memset(room, UNTOUCHED, sizeof room);
-    memset(&told, UNTOUCHED, sizeof told);
-    mc2_custom_audit(text, length, counts, objects, &told);
-    put(&told);
-    memset(&told, UNTOUCHED, sizeof told);
-    mc2_custom_merge(text, length, counts, objects, room, turns, &told);
-    put(&told);
-    size_t written = told.kind == MC2_SOUND || told.kind == MC2_CYCLE ? (size_t)told.first : 0;
-    if (written > turns)
-        fail("it told of more places than there are", 1);
+static void judge(const uint8_t *text, size_t length, size_t objects, size_t capacity) {
+    struct mc2_report report;
+    memset(order, UNTOUCHED, sizeof order);
+    memset(&report, UNTOUCHED, sizeof report);
+    mc2_custom_audit(text, length, counts, objects, &report);
+    put(&report);
+    memset(&report, UNTOUCHED, sizeof report);
+    mc2_custom_merge(text, length, counts, objects, order, capacity, &report);
+    put(&report);
+    size_t written = report.kind == MC2_SOUND || report.kind == MC2_CYCLE ? (size_t)report.first : 0;
+    if (written > capacity)
+        fail("it reported more places than there are", 1);
     check_untouched(written);
-    put_turns(written);
+    put_places(written);
     printf("|%016llx\n", (unsigned long long)digest_of(text, length));
 }
 
@@ -140,9 +140,9 @@ int main(void) {
     uint64_t sizes[3];
     open_text();
     while (get(sizes, sizeof sizes)) {
-        if (sizes[0] > MOST_TEXT || sizes[1] > sizeof counts / sizeof *counts || sizes[2] > MOST_TURNS)
+        if (sizes[0] > MOST_TEXT || sizes[1] > sizeof counts / sizeof *counts || sizes[2] > MOST_PLACES)
             fail("a case is too large", 1);
-        uint8_t *text = behind_text - sizes[0];
+        uint8_t *text = text_end - sizes[0];
         if (!get(counts, sizes[1] * sizeof *counts) || !get(text, sizes[0]))
             fail("a case is cut", 1);
         judge(text, sizes[0], sizes[1], sizes[2]);

@@ -1,4 +1,4 @@
-"""Records of rows of mc2 that have a name, made records 3: the program in C has to say what mc2 says, but for limits."""
+"""Records of rows of mc2 that have a name, made records 3: custom.c has to say what mc2 says, but for limits."""
 import os
 import re
 
@@ -41,36 +41,36 @@ def record_of(row):
     return command, text if is_one else None
 
 
-def said_by_mc2(row):
+def answer_of_mc2(row):
     return (row.stdout + row.stderr).decode(errors="replace")
 
 
-def line_in(said):
-    found = re.search(r"\bline (\d+)", said)
+def line_in(answer):
+    found = re.search(r"\bline (\d+)", answer)
     return int(found[1]) if found else None
 
 
 def agree(row, command, text, ran):
-    """Whether the verdicts are the same. Behind the objects each line is one further down."""
-    said, wanted = ran.stdout.decode() + ran.stderr.decode(), said_by_mc2(row)
+    """Whether the verdicts are the same. After the objects each line is one further down."""
+    answer, wanted = ran.stdout.decode() + ran.stderr.decode(), answer_of_mc2(row)
     if line_in(wanted) is not None and "E9" in wanted:
         objects = [at for at, line in enumerate(text.split("\n"), 1) if line.startswith("object ")]
-        return line_in(said) == line_in(wanted) + (bool(objects) and line_in(wanted) > objects[-1])
+        return line_in(answer) == line_in(wanted) + (bool(objects) and line_in(wanted) > objects[-1])
     if "E11" in wanted:
-        return said.startswith("cycle:\n")
+        return answer.startswith("cycle:\n")
     if command == "merge" and "unsound" not in wanted:
-        return said.count("\n") == wanted.count("\n") and ran.returncode == 0
-    return said.split("\n")[0] == wanted.replace("mc2: E10 ", "").split("\n")[0]
+        return answer.count("\n") == wanted.count("\n") and ran.returncode == 0
+    return answer.split("\n")[0] == wanted.replace("mc2: E10 ", "").split("\n")[0]
 
 
-def like_mc2(own):
-    """Judges each such record, and says how many are judged alike."""
+def like_mc2(custom):
+    """Judges these records, and says how many are judged alike."""
     alike = 0
     for row in rows_of("mc2"):
         command, text = record_of(row)
         if text is None or row.name in {"", *OTHER_LIMITS}:
             continue
-        ran = run([own, command], wanted=None, input=os.fsencode(made_third(text)), timeout=60)
+        ran = run([custom, command], wanted=None, input=os.fsencode(made_third(text)), timeout=60)
         if not agree(row, command, text, ran):
             raise Stop(f"{row.place}: {(ran.stdout + ran.stderr).decode()[:200]!r}")
         alike += 1

@@ -1,11 +1,11 @@
 #!/usr/bin/env python3
-"""use: random_texts.py small|crossed|changed COUNT JUDGED [OTHER] | planted SEEDS OWN | wide OWN | refused REFUSALS
+"""use: random_texts.py small|crossed|changed COUNT JUDGED [OTHER] | planted SEEDS CUSTOM | wide CUSTOM | refused REFUSALS
 
-Compares what is told of random records 3, and of texts that are nearly records.
+Compares the reports on random records 3, and on texts that are nearly records.
 
   small    small records by judged.c: each fault by its definition, orders by trying all
-  crossed  sound records whose entries are in another order than they were done, with all room and with little
-  changed  texts of which two programs of judged.c have to tell the same; each tenth is read by tools/lib/texts too
+  crossed  sound records whose entries are in another order than they were done, with enough places and with few
+  changed  texts on which two programs of judged.c have to report the same; each tenth is read by tools/lib/texts too
   planted  ten faults in a buffer and in counts of references: custom.c prints at most 15 steps of each, and names the culprit
   wide     a record of 256 CPUs and 256 objects, whose order by custom.c has to be one
   refused  the records of examples/custom and a large one by refusals.c, where each block of memory is refused
@@ -26,13 +26,13 @@ from common import ROOT, Stop, end, run
 from large_records import large_record
 from texts.record import record_fault
 
-TURNS, SECONDS = 64, 1200
+PLACES, SECONDS = 64, 1200
 BAD_LINE = 8
-# Each so many is read by the tools' reader too, and so many are judged at once.
+# One in this many is read by the tools' reader too; and how many are judged at once.
 READ_EACH, AT_ONCE = 10, 20_000
 KINDS = ["sound", "too long", "wrong step", "room was left", "not its event", "not asked", "unclaimed", "a cycle", "a bad line",
-         "out of memory", "no room", "mistold"]
-# The most steps that are printed of a planted fault.
+         "out of memory", "no room", "wrong counts"]
+# The most steps that are printed for a planted fault.
 MOST_LINES = 15
 WIDE = 256, 256, 20_000
 RECORDS = sorted((ROOT / "examples/custom/records").iterdir())
@@ -42,12 +42,12 @@ PLACE = re.compile(r"cpu (\d+) entry (\d+)")
 # ---- Cases of judged.c
 
 
-def case(text, counts, turns):
-    return struct.pack(f"<3Q{len(counts)}Q", len(text), len(counts), turns, *counts) + text
+def case(text, counts, capacity):
+    return struct.pack(f"<3Q{len(counts)}Q", len(text), len(counts), capacity, *counts) + text
 
 
 def answer_of(line):
-    """What mc2_custom_audit tells, what mc2_custom_merge tells, and the places that it wrote."""
+    """The reports of mc2_custom_audit and mc2_custom_merge, and the places that were written."""
     audit, merge, places, _digest = line.split("|")
     pairs = [tuple(int(number) for number in place.split(".")) for place in places.split()]
     return *(tuple(int(number) for number in it.split()) for it in (audit, merge)), pairs
@@ -68,27 +68,27 @@ def shown(kinds):
 # ---- Small records
 
 
-def has_right_order(record, merge, places, turns):
-    """Whether the answer of a merge is the least order, or a cycle where there is none; or tells that the room is too small."""
+def has_right_order(record, merge, places, capacity):
+    """Whether the report of a merge is the least order, or a cycle if there is none; or that there are too few places."""
     least = definitions.least_order(record)
     kind, first = merge[:2]
     if kind == definitions.NO_ROOM:
-        return first > turns and (least is None or first == len(least))
+        return first > capacity and (least is None or first == len(least))
     if least is not None:
         return kind == definitions.SOUND and first == len(least) and places == least
     return kind == definitions.CYCLE and first == len(places) and definitions.is_cycle(record, places)
 
 
-def judge_small(program, records, told, turns):
-    """Compares what is told of each record with the definitions, and counts the kinds."""
-    lines = lines_of(program, [case(record.spell(), counts, turns) for record, counts in zip(records, told)])
+def judge_small(program, records, all_counts, capacity):
+    """Compares the report on each record with the definitions, and counts the kinds."""
+    lines = lines_of(program, [case(record.spell(), counts, capacity) for record, counts in zip(records, all_counts)])
     kinds = Counter()
-    for record, counts, line in zip(records, told, lines):
+    for record, counts, line in zip(records, all_counts, lines):
         audit, merge, places = answer_of(line)
         wanted = definitions.verdict(record, counts)
         is_right = audit == wanted
         if wanted[0] == definitions.SOUND:
-            is_right = is_right and has_right_order(record, merge, places, turns)
+            is_right = is_right and has_right_order(record, merge, places, capacity)
         elif merge != wanted or places:
             is_right = False
         if not is_right:
@@ -100,30 +100,30 @@ def judge_small(program, records, told, turns):
 def small(count, program):
     chosen = random.Random(11)
     records = [made.make(chosen) for _ in range(int(count))]
-    return shown(judge_small(program, records, [made.tell_counts(it, chosen) for it in records], TURNS))
+    return shown(judge_small(program, records, [made.draw_counts(it, chosen) for it in records], PLACES))
 
 
 def crossed(count, program):
     chosen = random.Random(12)
     records = [made.crossed(chosen) for _ in range(int(count))]
-    told = [[record.count(x) for x in range(len(record.logs))] for record in records]
-    return "; ".join(f"{shown(judge_small(program, records, told, turns))} with room for {turns}" for turns in (TURNS, 4, 0))
+    counts = [[record.count(x) for x in range(len(record.logs))] for record in records]
+    return "; ".join(f"{shown(judge_small(program, records, counts, most))} with {most} places" for most in (PLACES, 4, 0))
 
 
 # ---- Changed texts
 
 
 def check_form(texts, lines):
-    """The tools' reader finds the same first line with which no record 3 goes on."""
+    """The tools' reader finds the same first line that isn't a record's."""
     for text, line in zip(texts, lines):
-        fault, told = record_fault(text, (b"3",)), answer_of(line)[0]
+        fault, report = record_fault(text, (b"3",)), answer_of(line)[0]
         bad = fault and fault.line
-        if (told[0] == BAD_LINE) != (bad is not None) or (bad is not None and told != (BAD_LINE, bad, 0, 0)):
-            raise Stop(f"{told} is told of a text whose first bad line is {bad}: {text!r}")
+        if (report[0] == BAD_LINE) != (bad is not None) or (bad is not None and report != (BAD_LINE, bad, 0, 0)):
+            raise Stop(f"the report is {report} on a text whose first bad line is {bad}: {text!r}")
 
 
 def counts_for(text, chosen):
-    """As many as the logs have steps, if the text is a record; now and then one is another number, missing, or one too many."""
+    """The numbers of steps of the logs, if the text is a record; now and then one is another number, missing, or one too many."""
     counts = [log.partition(b"\ncpu ")[0].count(b" = ") for log in text.split(b"\nlog ")[1:]]
     what = chosen.randrange(8)
     if what == 0:
@@ -136,12 +136,12 @@ def counts_for(text, chosen):
 
 
 def judge_both(one, two, texts, chosen):
-    """The kinds that both programs tell of the texts."""
-    cases = [case(it, counts_for(it, chosen), chosen.choice([TURNS, TURNS, chosen.randrange(8)])) for it in texts]
+    """The kinds of the reports of both programs on the texts."""
+    cases = [case(it, counts_for(it, chosen), chosen.choice([PLACES, PLACES, chosen.randrange(8)])) for it in texts]
     first, second = lines_of(one, cases), lines_of(two, cases)
-    for text, told, other in zip(texts, first, second):
-        if told != other:
-            raise Stop(f"{told} and {other} are told of {text!r}")
+    for text, one_line, other in zip(texts, first, second):
+        if one_line != other:
+            raise Stop(f"{one_line} and {other} are the reports on {text!r}")
     check_form(texts[::READ_EACH], first[::READ_EACH])
     return Counter(int(line.split(" ", 1)[0]) for line in first)
 
@@ -153,16 +153,16 @@ def changed(count, one, two):
     for begin in range(0, count, AT_ONCE):
         texts = [made.mutant(records, chosen) for _ in range(min(AT_ONCE, count - begin))]
         kinds += judge_both(one, two, texts, chosen)
-    return f"{count:,}, of which are told: {shown(kinds)}"
+    return f"{count:,}, with these reports: {shown(kinds)}"
 
 
 # ---- Planted faults, and a wide record
 
 
-def lines_of_fault(own, kind, fault, seed):
-    """How many steps are printed of the fault. They have to be few, and to have the culprits and what would have been right."""
+def lines_of_fault(custom, kind, fault, seed):
+    """How many steps are printed for the fault. They have to be few, with the culprits and the reply that would have been right."""
     text, lines, culprits = made.planted(kind, fault, seed)
-    said = run([own, "audit"], wanted=(1,), input=text, timeout=120).stdout.decode()
+    said = run([custom, "audit"], wanted=(1,), input=text, timeout=120).stdout.decode()
     steps = [it for it in said.splitlines() if it.startswith("  event ")]
     missing = [lines[it - 1] for it in culprits if f"  event {it}: {lines[it - 1]}" not in steps]
     if len(steps) > MOST_LINES or missing or "right would have been: " not in said:
@@ -170,39 +170,39 @@ def lines_of_fault(own, kind, fault, seed):
     return len(steps)
 
 
-def planted(seeds, own):
+def planted(seeds, custom):
     faults = [(kind, fault, seed) for kind in made.FAULTS for fault in made.FAULTS[kind] for seed in range(int(seeds))]
-    found = [lines_of_fault(own, *fault) for fault in faults]
+    found = [lines_of_fault(custom, *fault) for fault in faults]
     return f"{len(found)} records with ten faults, at most {max(found)} lines of each"
 
 
 def parts(text, word):
     """The lines of each log, or of each transcript, by its name."""
-    found, own = {}, None
+    found, part = {}, None
     for line in text.splitlines():
         if re.match(r"(log|cpu) \w+ \d+$", line):
-            own = found.setdefault(line.split()[1], []) if line.startswith(f"{word} ") else None
-        elif own is not None and line != "end":
-            own.append(line)
+            part = found.setdefault(line.split()[1], []) if line.startswith(f"{word} ") else None
+        elif part is not None and line != "end":
+            part.append(line)
     return found
 
 
-def wide(own):
-    """The order that is told has each CPU's entries in theirs, and each object's events in its log's."""
+def wide(custom):
+    """The order has each CPU's entries in the order of its transcript, and each object's events in the order of its log."""
     text = large_record(*WIDE)
     logs, transcripts = parts(text.decode(), "log"), parts(text.decode(), "cpu")
-    said = run([own, "merge"], input=text, timeout=300).stdout.decode()
-    told = [tuple(map(int, it)) for it in PLACE.findall(said)]
-    if sorted(told) != sorted((int(cpu), n + 1) for cpu, entries in transcripts.items() for n in range(len(entries))):
+    said = run([custom, "merge"], input=text, timeout=300).stdout.decode()
+    order = [tuple(map(int, it)) for it in PLACE.findall(said)]
+    if sorted(order) != sorted((int(cpu), n + 1) for cpu, entries in transcripts.items() for n in range(len(entries))):
         raise Stop("the order hasn't each entry once")
     nexts, at = dict.fromkeys(transcripts, 0), dict.fromkeys(logs, 0)
-    for cpu, n in told:
+    for cpu, n in order:
         entry = transcripts[str(cpu)][n - 1]
         name, steps = entry.split(" ", 1)[0], entry.partition(" | ")[2]
         if nexts[str(cpu)] != n - 1 or logs[name][at[name]] != f"{cpu} {steps}":
             raise Stop(f"cpu {cpu} entry {n} is out of order")
         nexts[str(cpu)], at[name] = n, at[name] + 1
-    return f"{len(told):,} entries in order"
+    return f"{len(order):,} entries in order"
 
 
 def refused(program):

@@ -1,8 +1,8 @@
 #!/usr/bin/env python3
 """use: sides.py mc2_judge.h|mc2_custom.h
 
-Compares the structs, numbers and arguments that cross: those of the sources of crates/judge with those of the header. The header
-must not fit once two of them are swapped.
+Compares the structs, numbers and arguments of the exports in the sources of crates/judge with those of the header. The header must
+not fit once two of them are swapped.
 """
 import sys
 from pathlib import Path
@@ -12,18 +12,20 @@ sys.path.insert(0, str(Path(__file__).resolve().parents[3] / "tools/lib"))
 from common import ROOT, Stop, end, run
 from other_side import EXPORT, text_of
 
-TOLD = {"Report": "mc2_report", "Turn": "mc2_entry_id"}
+REPORTS = {"Report": "mc2_report", "Turn": "mc2_entry_id"}
 LINES = {"SaidReport": "mc2_custom_term", "StepReport": "mc2_custom_step", "LineReport": "mc2_custom_line"}
 VERDICTS = "SOUND TOO_LONG WRONG_STEP ROOM_WAS_LEFT NOT_ITS_EVENT NOT_ASKED UNCLAIMED CYCLE BAD_LINE OUT_OF_MEMORY NO_ROOM".split()
-OWN_NUMBERS = {"NO_LINE": "NONE", "OBJECT_LINE": "OBJECT", "LOG_LINE": "LOG", "EVENT_LINE": "EVENT", "OTHER_LINE": "OTHER",
+CUSTOM_NUMBERS = {"NO_LINE": "NONE", "OBJECT_LINE": "OBJECT", "LOG_LINE": "LOG", "EVENT_LINE": "EVENT", "OTHER_LINE": "OTHER",
                "MOST_CUSTOM_CPUS": "CPUS", "MOST_CUSTOM_OBJECTS": "OBJECTS", "MOST_SIZES": "SIZES", "MOST_WORDS": "REFUSING",
                "MOST_LETTERS": "LETTERS", "MOST_NUMBERS": "NUMBERS", "MOST_CALLS": "CALLS", "COUNTED": "COUNTED"}
-NUMBERS = {it: f"MC2_{it}" for it in [*VERDICTS, "MISTOLD"]}
-OWN_NUMBERS = {here: f"MC2_CUSTOM_{there}" for here, there in OWN_NUMBERS.items()} | {it: f"MC2_{it}" for it in ("MISTOLD", "NO_MODEL")}
-# Of each header: the files of crates/ that have what crosses, their exports, the names in C of structs and numbers, and swaps.
+NUMBERS = {it: f"MC2_{it}" for it in VERDICTS} | {"MISTOLD": "MC2_WRONG_COUNTS"}
+CUSTOM_NUMBERS = {here: f"MC2_CUSTOM_{there}" for here, there in CUSTOM_NUMBERS.items()}
+CUSTOM_NUMBERS |= {"MISTOLD": "MC2_WRONG_COUNTS", "NO_MODEL": "MC2_NO_MODEL"}
+# Of each header: the files of crates/ with the exports and their types, the exports, the names in C of structs and numbers, and
+# swaps.
 HEADERS = {
     "mc2_judge.h": (
-        [f"judge/src/{it}.rt" for it in ("report", "merge", "audit")], {"mc2_audit", "mc2_merge"}, TOLD,
+        [f"judge/src/{it}.rt" for it in ("report", "merge", "audit")], {"mc2_audit", "mc2_merge"}, REPORTS,
         NUMBERS, {
             "fields of Report": ("    pub second: u64,\n    pub third: u64,", "    pub third: u64,\n    pub second: u64,"),
             "fields of Turn": ("    pub cpu: u64,\n    pub entry: u64,", "    pub entry: u64,\n    pub cpu: u64,"),
@@ -34,8 +36,8 @@ HEADERS = {
         }),
     "mc2_custom.h": (
         ["judge/src/*.rt", "custom_records/src/*.rt", "event_log/src/*.rt"],
-        {"mc2_custom_line", "mc2_custom_audit", "mc2_custom_merge", "mc2_custom_kernel"}, TOLD | LINES,
-        OWN_NUMBERS, {
+        {"mc2_custom_line", "mc2_custom_audit", "mc2_custom_merge", "mc2_custom_kernel"}, REPORTS | LINES,
+        CUSTOM_NUMBERS, {
             "fields of LineReport": ("    pub next: u64,\n    pub limit: u64,", "    pub limit: u64,\n    pub next: u64,"),
             "lengths": ("    pub numbers: [u64; MOST_NUMBERS],", "    pub numbers: [u64; MOST_SIZES],"),
             "fields of StepReport": ("    pub call: SaidReport,\n    pub reply", "    pub reply: SaidReport,\n    pub call"),

@@ -1,4 +1,4 @@
-/* Reads a file's text. A program that can't read it ends with status 3. */
+/* Reads a file's text, or ends the program with status 3. */
 #include <stdint.h>
 #include <stdio.h>
 #include <stdlib.h>

@@ -1,9 +1,9 @@
 /* use: witness SEEDS
 
    Checks include/mc2_custom_witness.h: makes that many logs of run queues, allocators and pipes, the last step of which is wrong
-   by its model, and finds a witness of each. The steps that are kept have to be right in their order, and the last one wrong
-   for the reason that is told, where what is told would have been right. Without any one of them, but for the last one, it mustn't
-   be so, unless the search was ended early, which is tried too.
+   by its model, and finds a witness of each. The kept steps have to be right in their order, and the last step wrong for the reason
+   that is returned, where the reply that is returned would have been right. Without any one of the kept steps but the last this
+   mustn't hold, unless the search ended early, which is tried too. Of another report there is no witness.
    Prints how many steps there were and how many were kept. The status is 0, or 1 at the first check that fails. */
 #include "../../../examples/custom/models.h"
 #include "mc2_custom_witness.h"
@@ -61,68 +61,86 @@ static void add(const char *line) {
     text.length += length;
 }
 
-/* A log whose last step is wrong, and how many are before it. */
+/* Makes a log whose last step is wrong, and returns how many steps are before it. */
 static uint64_t make_log(unsigned kind, const struct mc2_model *model, void *state) {
     static const char *const heads[] = {"object o ticket 99 runq 5\nlog o 99\n", "object o ticket 99 buddy 3\nlog o 99\n",
                                         "object o ticket 99 pipe 8 4\nlog o 99\n"};
     char line[120];
     uint64_t count = 0, wanted = 1 + below(MOST_STEPS);
-    bool goes_on = true;
+    bool has_more = true;
     text.length = 0;
     add(heads[kind]);
-    while (goes_on) {
+    while (has_more) {
         make_line(kind, line, sizeof line);
         bool right = is_right(model, state, line);
-        goes_on = right || count < wanted;
-        if (right || !goes_on)
+        has_more = right || count < wanted;
+        if (right || !has_more)
             add(line);
         count += right;
-        goes_on = goes_on && count < 2 * MOST_STEPS;
+        has_more = has_more && count < 2 * MOST_STEPS;
     }
     return count;
 }
 
-/* Why the last step is wrong behind the others but one, or NULL; and what would have been right. */
-static const char *reason_without(const struct mc2_priv_trial *trial, const struct mc2_custom_witness *witness, size_t left_out,
+/* Why the last step is wrong after the others but one, or NULL; and what would have been right. */
+static const char *reason_without(const struct mc2_model *model, const struct mc2_custom_witness *witness, size_t left_out,
                                   char *right) {
-    void *state = trial->model->open(trial->object.numbers, trial->object.count);
+    struct mc2_custom_line line;
+    mc2_custom_line((const uint8_t *)text.bytes, text.length, 0, &line);
+    void *state = model->open(line.numbers, line.count);
     const char *why = NULL;
     size_t at = 0;
     for (; at <= witness->count && !why; at++) {
-        struct mc2_custom_line line;
-        mc2_custom_line(trial->text, trial->length, (size_t)witness->steps[at].line, &line);
+        mc2_custom_line((const uint8_t *)text.bytes, text.length, (size_t)witness->steps[at].line, &line);
         right[0] = 0;
-        trial->model->says(state, &line.steps[witness->steps[at].step].call, right, MC2_CUSTOM_RIGHT);
-        why = at == left_out ? NULL : trial->model->step(state, &line.steps[witness->steps[at].step]);
+        model->says(state, &line.steps[witness->steps[at].step].call, right, MC2_CUSTOM_RIGHT);
+        why = at == left_out ? NULL : model->step(state, &line.steps[witness->steps[at].step]);
     }
-    trial->model->close(state);
+    model->close(state);
     return at == witness->count + 1 ? why : NULL;
 }
 
-static void check_witness(const struct mc2_priv_trial *trial, const struct mc2_custom_witness *witness, const char *reason,
+static void check_witness(const struct mc2_model *model, const struct mc2_custom_witness *witness, const char *reason,
                           bool is_whole) {
     char right[MC2_CUSTOM_RIGHT];
-    const char *why = reason_without(trial, witness, SIZE_MAX, right);
+    const char *why = reason_without(model, witness, SIZE_MAX, right);
     CHECK(reason && why && strcmp(why, reason) == 0);
     CHECK(witness->is_by_reason || strcmp(right, witness->right) == 0);
     for (size_t at = 0; is_whole && at + 1 < witness->count; at++) {
-        why = reason_without(trial, witness, at, right);
+        why = reason_without(model, witness, at, right);
         CHECK(!why || strcmp(why, reason) != 0 || (!witness->is_by_reason && strcmp(right, witness->right) != 0));
     }
 }
 
-/* Finds a witness by that many questions, and says how many steps are kept. */
-static size_t find(const struct mc2_custom_logs *asked, uint64_t left) {
+static const char *find(const struct mc2_custom_logs *logs, const struct mc2_report *report, struct mc2_custom_witness *witness) {
+    return mc2_custom_find_witness((const uint8_t *)text.bytes, text.length, models, MODELS, logs, report, witness);
+}
+
+/* Finds a witness of the last step by at most that many questions, and returns how many steps it keeps. */
+static size_t find_last(const struct mc2_model *model, const struct mc2_custom_logs *logs, uint64_t left) {
     struct mc2_custom_place steps[2 * MOST_STEPS + 1];
     struct mc2_custom_witness witness = {steps, 0, left, "", false};
-    struct mc2_priv_trial trial = mc2_priv_try((const uint8_t *)text.bytes, text.length, models, MODELS, asked, 0);
-    const char *reason = mc2_custom_find_witness(&trial, (size_t)asked->log[0], (size_t)asked->right[0], &witness);
-    check_witness(&trial, &witness, reason, left == PLENTY);
+    struct mc2_report report = {MC2_WRONG_STEP, 0, logs->right[0], 0};
+    check_witness(model, &witness, find(logs, &report, &witness), left == PLENTY);
     return witness.count;
 }
 
+/* There is no witness of another fault, of another step, or of an object whose kind no model has. */
+static void check_none(const struct mc2_custom_logs *logs) {
+    struct mc2_custom_place steps[2 * MOST_STEPS + 1];
+    struct mc2_custom_witness witness = {steps, 0, PLENTY, "", false};
+    struct mc2_report report = {MC2_UNCLAIMED, 0, logs->right[0], 0};
+    CHECK(!find(logs, &report, &witness));
+    report = (struct mc2_report){MC2_WRONG_STEP, 0, logs->right[0], 1};
+    CHECK(!find(logs, &report, &witness));
+    report = (struct mc2_report){MC2_WRONG_STEP, 0, logs->right[0] - 1, 0};
+    CHECK(!find(logs, &report, &witness));
+    report = (struct mc2_report){MC2_WRONG_STEP, 0, logs->right[0], 0};
+    CHECK(!mc2_custom_find_witness((const uint8_t *)text.bytes, text.length, models, 0, logs, &report, &witness));
+}
+
 static void check_one(size_t *all, size_t *kept) {
-    static struct mc2_custom_logs asked;
+    static struct mc2_custom_logs logs;
     static const uint64_t numbers[3][2] = {{5, 0}, {3, 0}, {8, 4}};
     unsigned kind = below(3);
     void *state = models[kind].open(numbers[kind], kind == 2 ? 2 : 1);
@@ -131,10 +149,11 @@ static void check_one(size_t *all, size_t *kept) {
     models[kind].close(state);
     if (right == 2 * MOST_STEPS)
         return;
-    CHECK(mc2_priv_ask_all((const uint8_t *)text.bytes, text.length, models, MODELS, &asked) == 1);
-    CHECK(asked.right[0] == right);
-    find(&asked, below(300));
-    *kept += find(&asked, PLENTY);
+    CHECK(mc2_priv_ask_all((const uint8_t *)text.bytes, text.length, models, MODELS, &logs) == 1);
+    CHECK(logs.right[0] == right);
+    check_none(&logs);
+    find_last(&models[kind], &logs, below(300));
+    *kept += find_last(&models[kind], &logs, PLENTY);
     *all += (size_t)right;
 }
 
