@@ -6,20 +6,22 @@
 //     struct mc2_object run_queue = {"runq", MC2_QUEUE, MC2_MCS, 1000, 64, 0, NULL};
 //     mc2_cell_open(&cell, &run_queue, callers, cpus);      opens a cell, with one caller per CPU
 //     mc2_queue_enq(&callers[cpu], 3, &reply);              acquires, enqueues thread 3, releases
-//     mc2_cell_close(&cell, callers, cpus);                 ends the calls, so that the log can be read
-//     mc2_cell_free(&cell, callers, cpus);
+//     mc2_cell_close(&cell, callers, cpus);                 frees the callers, so that the log can be read
+//     mc2_cell_free(&cell, NULL, 0);
 //
 // `tools/develop/library cells --unproved` compiles the library in a minute or two, to .unproved/libcells.a. Without the last word
-// it proves the library, to crates/cells/out/libcells.a. Link either with the kit's heap (malloc and free):
+// it proves the library, to crates/cells/out/libcells.a. Link either with the heap of the Rattle kit, which uses malloc and free;
+// KIT is the kit's folder:
 //
 //     gcc -Iinclude program.c .unproved/libcells.a KIT/c/liblibc_c.a -pthread
 //
 // See also  mc2_by_name.h: each call as a function of its own. mc2_cells_record.h: writes the record that `mc2 audit` judges.
-//           mc2_cells_raw.h: for wait loops of your own. docs/IN_A_KERNEL.md: kernels.
+//           mc2_cells_raw.h, mc2_wait.h: for wait loops of your own. mc2_cells.hpp: classes for C++. docs/IN_A_KERNEL.md: kernels.
 //
 // CALLER OBLIGATIONS (not checked)
 //
-//   1. Open cells and callers with the functions below, and don't read or write their fields.
+//   1. Open cells and callers with the functions below, and don't read or write their fields. Don't open an open one again, and
+//      don't use a caller after it is closed or freed.
 //   2. Don't copy or move an open cell or caller. A cell stays in place until its last caller is freed.
 //   3. Use each cell handle and each caller from one thread at a time, also to read a closed cell's log. Hand them over with a
 //      lock, thread creation or join, or a seq_cst atomic. Different callers of one cell may be used concurrently.
@@ -33,12 +35,16 @@
 //
 // WHAT IS PROVED
 //
-//   The library (mc2_cells_raw.h), by the contracts of crates/cells/README.md. Nothing is proved of the inline functions of this
-//   header: they are the wait loops. No contract says the following, so you trust it:
-//   - mc2_handle_alloc stores a valid empty handle, and mc2_handle_free frees everything that a handle has;
-//   - MC2_NO_MEMORY occurs only if memory was refused; a cell without a log allocates none for it; mc2_cell_drop_log frees it;
-//   - the kit's shared pointer refuses a caller or a closing only for the reasons given here;
-//   - the structs here, and the numbers of mc2_objects.h, are the library's (crates/cell_callers/specs/Coding.antt).
+//   The library (mc2_cells_raw.h), by the contracts of crates/cells/README.md. None of its functions waits. The inline functions
+//   of this header are the wait loops around them; nothing is proved of these. No contract says the following, so you trust it:
+//   - mc2_handle_alloc stores a valid empty handle, and mc2_handle_free frees everything that a handle has, and leaves a caller
+//     that it refuses unchanged;
+//   - MC2_NO_MEMORY occurs only if memory was refused; opening writes the memory of a log; a cell without a log allocates none for
+//     it; dropping a log frees it;
+//   - a try returns MC2_BUSY only if another caller holds the lock or is in line for it;
+//   - the reference count by which callers share a cell refuses a caller or a closing only for the reasons in mc2_cells_raw.h;
+//   - the structs here, and the numbers of mc2_objects.h and mc2_result.h, are the library's (Coding.antt and CodeNumbers.antt in
+//     crates/cell_callers/specs).
 //
 // MEMORY ORDERING
 //
@@ -48,41 +54,39 @@
 // LOG
 //
 //   Every call is one event of the cell's log. A cell opened with 1 to 65,536 events keeps its log in memory, which is allocated
-//   and written at opening: 208 bytes an event, about 10 ms for 65,536. A full log stays full: every later call returns
-//   MC2_LOG_FULL. A cell opened with 0 events keeps no log: it takes no memory, can't be read, and has room for 2^64 - 1 events
-//   (584 years at one per nanosecond). To continue after a full log: mc2_cell_close, read the log, mc2_cell_drop_log,
-//   mc2_cell_reopen.
+//   and written at opening, so that no call faults a page in: 208 bytes an event, about 10 ms for 65,536. A full log stays full:
+//   every later call returns MC2_LOG_FULL. A cell opened with 0 events keeps no log: it takes no memory, can't be read, and has
+//   room for 2^64 - 1 events (584 years at one per nanosecond). To continue after a full log: mc2_cell_close, read the log,
+//   mc2_cell_drop_log, mc2_cell_reopen.
 //
 // FREESTANDING
 //
-//   Compiles with -ffreestanding. The kernel provides memcpy, memmove, memset, rattle_alloc and rattle_dealloc; mc2_heap.h has the
-//   last two. Objects aren't larger than the library's: docs/IN_A_KERNEL.md has sizes and stack.
+//   Compile with -ffreestanding, and link only libcells.a. The kernel provides memcpy, memmove, memset, rattle_alloc and
+//   rattle_dealloc, of which mc2_heap.h has the last two. docs/IN_A_KERNEL.md says what each must do, and how much memory and
+//   stack the library needs.
 #ifndef MC2_CELLS_H
 #define MC2_CELLS_H
 
 #include "mc2_cells_raw.h"
 
 // Wraps every call of the library below. A kernel whose interrupt handlers call objects defines it to disable interrupts around
-// `call` and to return its value. Interrupts may come between two such calls: while a caller waits, and while it holds the lock
-// after mc2_acquire or mc2_try_acquire.
+// `call` and to return its value. Interrupts may come between two such calls: while a caller waits, while it holds the lock after
+// mc2_acquire or mc2_try_acquire, and while a whole call waits to release an MCS lock.
 #ifndef MC2_IRQ_OFF
 #define MC2_IRQ_OFF(call) (call)
 #endif
 
-// Wraps the calls that use the heap: opening, closing, reopening and freeing. A kernel whose heap may sleep defines it as the bare
-// call, and lets no handler use a cell meanwhile.
+// Wraps the calls that open, close, reopen and free, and that drop a log; all use of the heap is in these. A kernel whose heap may
+// sleep defines it as the bare call, and lets no handler use a cell meanwhile.
 #ifndef MC2_ALLOCATING
 #define MC2_ALLOCATING(call) MC2_IRQ_OFF(call)
 #endif
-
-// Internal: cold paths, never inlined.
-#define MC2_PRIV_COLD __attribute__((__noinline__, __cold__, __unused__)) static
 
 #include "mc2_by_name.h"
 
 // ---- CPUs that come later. Most programs use mc2_cell_open, which opens all callers.
 
-// Opens a cell without callers. Arguments and results as mc2_cell_open; mc2_caller_open creates its callers.
+// Opens a cell without callers; mc2_caller_open creates them. Arguments, results and context as mc2_cell_open.
 static inline uint32_t mc2_cell_open_bare(struct mc2_cell *cell, const struct mc2_object *object, uint32_t cpus) {
     struct mc2_cell_opening opening = {object->lock, object->kind, object->events, cpus, object->size, object->channels, {0}};
     for (uint32_t owner = 0; owner < MC2_OWNERS; owner++)
@@ -101,8 +105,8 @@ static inline uint32_t mc2_cell_open_bare(struct mc2_cell *cell, const struct mc
     return result;
 }
 
-// Frees a caller that is idle, or that was never opened.
-// If it wasn't returned to its cell (mc2_caller_close), its CPU has no caller any more, and the cell can't be closed.
+// Frees an idle caller without returning it to its cell: its CPU has no caller any more, and the cell can't be closed. Does nothing
+// if the caller is closed or freed.
 // Returns  MC2_DONE; MC2_REFUSED: the caller is in line or holds the lock.
 // Context  Uses the heap. Not in an interrupt handler.
 static inline uint32_t mc2_caller_free(struct mc2_caller *caller) {
@@ -116,12 +120,12 @@ static inline uint32_t mc2_caller_free(struct mc2_caller *caller) {
 // Creates the caller of the highest CPU number that has none.
 // Returns  MC2_DONE; MC2_REFUSED: every CPU has a caller, or the cell isn't open; MC2_NO_MEMORY. After an error there is nothing to
 //          free.
-// Context  Uses the heap. Not in an interrupt handler. Not concurrent with another function on the same cell handle.
+// Context  Uses the heap. Not in an interrupt handler.
 static inline uint32_t mc2_caller_open(struct mc2_cell *cell, struct mc2_caller *caller) {
     caller->impl = NULL;
     caller->waiters = &cell->waiters;
     caller->looks = 0;
-    uint32_t result = MC2_ALLOCATING(mc2_handle_alloc(&caller->impl));
+    uint32_t result = cell->impl ? MC2_ALLOCATING(mc2_handle_alloc(&caller->impl)) : (uint32_t)MC2_REFUSED;
     if (result != MC2_DONE)
         return result;
     result = MC2_ALLOCATING(mc2_handle_open_caller(cell, caller));
@@ -130,17 +134,20 @@ static inline uint32_t mc2_caller_open(struct mc2_cell *cell, struct mc2_caller 
     return result;
 }
 
-// Returns an idle caller to its cell and frees it. Does nothing if that was done already.
-// Returns  MC2_DONE; MC2_REFUSED: the caller isn't idle, or a caller of a lower CPU is still out.
-// Context  Uses the heap. Not in an interrupt handler. Not concurrent with another function on the same cell handle.
+// Returns an idle caller to its cell and frees it. Does nothing if the caller is closed or freed.
+// Returns  MC2_DONE; MC2_REFUSED: the caller isn't idle, a caller of a lower CPU is still open, or the cell isn't open.
+// Context  Uses the heap. Not in an interrupt handler.
 static inline uint32_t mc2_caller_close(struct mc2_cell *cell, struct mc2_caller *caller) {
-    uint32_t result = caller->impl ? MC2_ALLOCATING(mc2_handle_return_caller(cell, caller)) : (uint32_t)MC2_DONE;
+    if (!caller->impl)
+        return MC2_DONE;
+    uint32_t result = cell->impl ? MC2_ALLOCATING(mc2_handle_return_caller(cell, caller)) : (uint32_t)MC2_REFUSED;
     return result == MC2_DONE ? mc2_caller_free(caller) : result;
 }
 
 // ---- Open, close, free
 
-// Frees a cell, open or closed, and those of its callers that are idle. Callers that aren't idle keep their memory and still work.
+// Frees a cell, open or closed, and those of `callers` that are idle. Other callers still work: free each with mc2_caller_free once
+// it is idle. A cell or caller that is freed already is skipped.
 //   count    the number of callers in `callers`, which may be NULL if it is 0
 // Context  Uses the heap. Not in an interrupt handler.
 static inline void mc2_cell_free(struct mc2_cell *cell, struct mc2_caller *callers, uint32_t count) {
@@ -153,13 +160,15 @@ static inline void mc2_cell_free(struct mc2_cell *cell, struct mc2_caller *calle
 }
 
 // Opens a cell around a new object, with one caller for each CPU: callers[k] is CPU k's.
-//   object   kind, lock, log capacity and size; its name is ignored. 0 events: no log is kept.
-//   cpus     1 to 64; `callers` has room for that many
+//   object   its name is ignored; 0 events: no log is kept
+//   cpus     1 to 64; `callers` has room for this many
 // Returns  MC2_DONE; MC2_BAD_PARAM: an argument is out of range; MC2_NO_MEMORY. After an error there is nothing to free.
 // Context  Uses the heap. Not in an interrupt handler.
 static inline uint32_t mc2_cell_open(struct mc2_cell *cell, const struct mc2_object *object, struct mc2_caller *callers,
                                      uint32_t cpus) {
     uint32_t result = mc2_cell_open_bare(cell, object, cpus), first = cpus;
+    if (result != MC2_DONE)
+        return result;
     while (result == MC2_DONE && first > 0)
         result = mc2_caller_open(cell, &callers[--first]);
     if (result != MC2_DONE)
@@ -169,10 +178,10 @@ static inline uint32_t mc2_cell_open(struct mc2_cell *cell, const struct mc2_obj
 
 // Closes a cell and frees its callers. The object and its log remain: read the log (mc2_cell_read_step), drop it
 // (mc2_cell_drop_log), continue (mc2_cell_reopen), or free the cell.
-//   count    the number of callers in `callers`: those that weren't closed before
-// Returns  MC2_DONE; MC2_REFUSED: a caller isn't idle, or the cell isn't open. That caller and those after it are unchanged: call
-//          again later.
-// Context  Uses the heap. No other thread may use the cell or its callers.
+//   callers  the cell's callers, by ascending CPU. Those that are closed already may be left out; NULL if `count` is 0
+// Returns  MC2_DONE; MC2_REFUSED: a caller isn't idle or is left out, or the cell isn't open. The first caller that isn't idle and
+//          those after it are unchanged: call again later.
+// Context  Uses the heap. Not in an interrupt handler.
 static inline uint32_t mc2_cell_close(struct mc2_cell *cell, struct mc2_caller *callers, uint32_t count) {
     uint32_t result = cell->impl ? MC2_DONE : MC2_REFUSED;
     for (uint32_t at = 0; at < count && result == MC2_DONE; at++)
@@ -184,7 +193,7 @@ static inline uint32_t mc2_cell_close(struct mc2_cell *cell, struct mc2_caller *
 
 // Acquires the cell's lock, waiting in FIFO order.
 // Returns  MC2_DONE; MC2_REFUSED: the caller already holds the lock.
-// Context  Blocks: spins by MC2_PAUSE, and after 120 failed looks sleeps by MC2_USLEEP if there is one. Not in an interrupt handler.
+// Context  Blocks: spins by MC2_PAUSE, and sleeps by MC2_USLEEP if there is one (mc2_wait.h). Not in an interrupt handler.
 // Ordering Acquire: sees everything that earlier holders did before they released the lock.
 static inline uint32_t mc2_acquire(struct mc2_caller *caller) {
     uint64_t failed = 0;
@@ -210,7 +219,7 @@ static inline uint32_t mc2_try_acquire(struct mc2_caller *caller) {
     return result == MC2_ACQUIRED_BY_LOOK ? (uint32_t)MC2_DONE : result;
 }
 
-// Performs one call as one event of the log. The caller holds the lock.
+// Performs one call as one event of the log. The caller must hold the lock.
 //   call     a call of the object's kind; a call of another kind is an event with the reply MC2_BADCALL
 //   reply    out, on MC2_DONE
 // Returns  MC2_DONE; MC2_LOG_FULL, MC2_NOT_FOUND (no such call): nothing was done; MC2_REFUSED: the caller doesn't hold the lock.
@@ -221,8 +230,8 @@ static inline uint32_t mc2_apply(struct mc2_caller *caller, const struct mc2_cal
 
 // Releases the lock.
 // Returns  MC2_DONE; MC2_REFUSED: the caller doesn't hold the lock.
-// Context  An MCS lock may wait for a successor that has entered the queue and hasn't linked itself yet; a ticket lock doesn't wait.
-//          Interrupt handlers may call it, with a caller of their own.
+// Context  A ticket lock doesn't wait. An MCS lock waits, as mc2_acquire does, if a successor has entered the queue and hasn't linked
+//          itself yet. Interrupt handlers may call it, with a caller of their own.
 // Ordering Release: the next holder sees everything that was done before.
 static inline uint32_t mc2_release(struct mc2_caller *caller) {
     for (uint64_t failed = 0;;) {
@@ -272,33 +281,31 @@ MC2_PRIV_COLD uint32_t mc2_priv_batch_slow(struct mc2_caller *caller, const stru
     return mc2_priv_call_release(caller, result);
 }
 
-// Performs one call: acquires the lock, performs the call as one event of the log, releases the lock.
-//   call     a call of the object's kind; a call of another kind is an event with the reply MC2_BADCALL
-//   reply    out, on MC2_DONE
-// Returns  MC2_DONE; MC2_LOG_FULL, MC2_NOT_FOUND (no such call): nothing was done; MC2_REFUSED: the caller isn't idle.
+// Performs one call: acquires the lock, performs the call as one event of the log, releases the lock. Arguments as mc2_apply.
+// Returns  MC2_DONE; MC2_LOG_FULL, MC2_NOT_FOUND (no such call): nothing was done; MC2_REFUSED: the caller holds the lock.
 // Context  Blocks as mc2_acquire. Not in an interrupt handler.
 // Ordering Acquire, then release.
 static inline uint32_t mc2_cell_call(struct mc2_caller *caller, const struct mc2_call *call, struct mc2_reply *reply) {
     struct mc2_call asked = *call;
-    caller->looks = 0;
-    mc2_throttle(caller->waiters);
-    uint32_t result = MC2_IRQ_OFF(mc2_priv_poll(caller, asked, reply));
-    return result == MC2_DONE ? result : mc2_priv_call_slow(caller, asked, reply, result);
+    uint64_t *looks = mc2_priv_begin(caller);
+    uint32_t result = MC2_IRQ_OFF(mc2_priv_poll(caller, asked, reply, looks));
+    return mc2_priv_end(caller, asked.word, asked.first, asked.second, reply, result);
 }
 
 // Performs 1 to 8 calls in order as one event, which ends with the first call whose reply refuses it.
+//   replies  out, on MC2_DONE: one for each call that was performed; those past the count are unspecified
 // Returns  as mc2_cell_call; MC2_REFUSED also for 0 or more than 8 calls; MC2_NOT_FOUND: one call doesn't exist, and none was
 //          performed.
-// Context  and Ordering as mc2_cell_call.
+// Context  as mc2_cell_call
+// Ordering as mc2_cell_call
 static inline uint32_t mc2_cell_batch(struct mc2_caller *caller, const struct mc2_batch *batch, struct mc2_replies *replies) {
-    caller->looks = 0;
-    mc2_throttle(caller->waiters);
-    uint32_t result = MC2_IRQ_OFF(mc2_poll_batch(caller, batch, replies, &caller->looks));
+    uint64_t *looks = mc2_priv_begin(caller);
+    uint32_t result = MC2_IRQ_OFF(mc2_poll_batch(caller, batch, replies, looks));
     return result == MC2_DONE ? result : mc2_priv_batch_slow(caller, batch, replies, result);
 }
 
 // Performs one call if no one holds the lock or is in line for it.
-// Returns  as mc2_cell_call; MC2_BUSY: nothing was done.
+// Returns  as mc2_cell_call; MC2_BUSY: nothing was done; MC2_REFUSED: the caller isn't idle.
 // Context  Doesn't wait for the lock. Releasing an MCS lock may wait as mc2_release does. Interrupt handlers may call it, with a
 //          caller of their own.
 // Ordering as mc2_cell_call, on MC2_DONE.
@@ -306,7 +313,8 @@ static inline uint32_t mc2_cell_try_call(struct mc2_caller *caller, const struct
     return mc2_priv_call_release(caller, MC2_IRQ_OFF(mc2_poll_try_call(caller, call, reply)));
 }
 
-// Returns how often the caller read the lock while it waited, in its last mc2_acquire, mc2_cell_call, mc2_cell_batch or call by name.
+// Returns the looks of the caller's last mc2_acquire, mc2_cell_call, mc2_cell_batch or call by name: how often it read whether its
+// turn had come. Recorders note this number.
 static inline uint64_t mc2_caller_looks(const struct mc2_caller *caller) { return caller->looks; }
 
 // ---- The log of a closed cell
@@ -315,7 +323,7 @@ static inline uint64_t mc2_caller_looks(const struct mc2_caller *caller) { retur
 //   event, index   the event, and the step in it, both from 0; an event has one step for each of its 1 to 8 calls
 //   step           out, on MC2_DONE
 // Returns  MC2_DONE; MC2_NOT_FOUND: there is no such step, the cell isn't closed, or its log isn't kept.
-// Context  Doesn't wait.
+// Context  Doesn't wait. Not in an interrupt handler.
 static inline uint32_t mc2_cell_read_step(struct mc2_cell *cell, size_t event, size_t index, struct mc2_logged_step *step) {
     return cell->impl ? MC2_IRQ_OFF(mc2_handle_read_step(cell, event, index, step)) : (uint32_t)MC2_NOT_FOUND;
 }
@@ -328,7 +336,7 @@ static inline uint32_t mc2_cell_drop_log(struct mc2_cell *cell) {
 }
 
 // Reopens a closed cell on its object. The log continues with the room that was left. Create the callers with mc2_caller_open.
-//   lock     enum mc2_lock_kind, which may be another than before
+//   lock     enum mc2_lock_kind; it may differ from before
 //   cpus     1 to 64
 // Returns  MC2_DONE; MC2_REFUSED: the cell isn't closed; MC2_BAD_PARAM, MC2_NO_MEMORY: it is still closed, as before.
 // Context  Uses the heap. Not in an interrupt handler.

@@ -1,8 +1,19 @@
-// Cells from C++17, over mc2_cells.h: a cell, its callers and their holds, each of which frees or gives back what it has at its
-// end. Nothing here throws, and it compiles without exceptions. Nothing here is proved.
+// mc2_cells.hpp - cells, callers and holds as classes of C++17, over mc2_cells.h.
 //
-// What you owe is what mc2_cells.h says of threads and interrupts, and that what is borrowed lives on: a cell as long as each of
-// its callers, and a caller, at its place, as long as its hold.
+// Each function does what the function of that name in mc2_cells.h does, with its context and ordering. Destructors free cells and
+// callers, and release locks.
+//
+//     std::vector<mc2::caller> callers(cpus);
+//     mc2::expected<mc2::cell> cell = mc2::cell::open(run_queue, callers.data(), cpus);
+//     mc2::expected<mc2_reply> reply = callers[cpu].call(mc2_call_of(MC2_ENQ, 3, 0));
+//     cell->close(callers.data(), cpus);
+//
+// A cell, caller or hold is empty if it was moved from, freed, closed (a caller), released (a hold) or never opened. Its functions
+// then return MC2_REFUSED. Nothing here throws, and it compiles with -fno-exceptions. Nothing here is proved.
+//
+// The caller obligations of mc2_cells.h apply, but a cell and an idle caller may be moved while no other thread uses them. Also: a
+// caller outlives its hold, and isn't moved or freed while the hold exists. After a cell's destructor its callers may only be
+// freed, destroyed or assigned to.
 #ifndef MC2_CELLS_HPP
 #define MC2_CELLS_HPP
 
@@ -18,153 +29,151 @@
 
 namespace mc2 {
 
-// A value, or why there is none.
-template <typename Value> class expected {
+// A value, or the result that says why there is none. Use * and -> only if there is one.
+template <typename Value> class [[nodiscard]] expected {
   public:
-    expected(Value value) : value_(std::move(value)), told_(MC2_DONE) {}
-    expected(mc2_result why) : told_(why) {}
+    expected(Value value) : value_(std::move(value)), result_(MC2_DONE) {}
+    expected(mc2_result error) : result_(error) {}
     explicit operator bool() const { return value_.has_value(); }
     Value &operator*() { return *value_; }
     Value *operator->() { return &*value_; }
-    // MC2_DONE where there is a value, and else the reason.
-    mc2_result told() const { return told_; }
+    // Returns MC2_DONE if there is a value, and the error otherwise.
+    mc2_result result() const { return result_; }
 
   private:
     std::optional<Value> value_;
-    mc2_result told_;
+    mc2_result result_;
 };
 
-// A caller that has the object, until the end of the hold.
+// Internal: a result of C, without and with the value that is valid if it is MC2_DONE.
+inline mc2_result priv_result(uint32_t result) { return static_cast<mc2_result>(result); }
+template <typename Value> expected<Value> priv_result(uint32_t result, const Value &value) {
+    return result == MC2_DONE ? expected<Value>(value) : expected<Value>(priv_result(result));
+}
+
+// A caller that holds the lock. The destructor releases it.
 class hold {
   public:
-    hold(hold &&other) noexcept : caller_(std::exchange(other.caller_, nullptr)), looks_(other.looks_) {}
-    hold &operator=(hold &&other) noexcept { return std::swap(caller_, other.caller_), std::swap(looks_, other.looks_), *this; }
-    ~hold() {
-        if (caller_)
-            mc2_release(caller_);
-    }
-
-    // Does the call as one event of the log: its reply, or MC2_LOG_FULL or MC2_NOT_FOUND, and nothing was done.
-    expected<mc2_reply> call(const mc2_call &asked) {
+    expected<mc2_reply> apply(const mc2_call &call) {
         mc2_reply reply = {};
-        uint32_t told = MC2_IRQ_OFF(mc2_apply_step(caller_, &asked, &reply));
-        return told == MC2_DONE ? expected<mc2_reply>(reply) : static_cast<mc2_result>(told);
+        return caller_ ? priv_result(mc2_apply(caller_.get(), &call, &reply), reply) : MC2_REFUSED;
     }
-
-    // By how many looks the object came.
-    uint64_t looks() const { return looks_; }
+    // Releases the lock now.
+    mc2_result release() {
+        mc2_caller *held = caller_.release();
+        return held ? priv_result(mc2_release(held)) : MC2_REFUSED;
+    }
 
   private:
     friend class caller;
-    hold(mc2_caller *caller, uint64_t looks) : caller_(caller), looks_(looks) {}
-    mc2_caller *caller_;
-    uint64_t looks_;
+    struct releaser {
+        void operator()(mc2_caller *caller) const { mc2_release(caller); }
+    };
+    explicit hold(mc2_caller *caller) : caller_(caller) {}
+    std::unique_ptr<mc2_caller, releaser> caller_;
 };
 
-// One CPU of a cell, for one thread at a time.
+// One CPU's right to use a cell, for one thread at a time. The destructor frees it; while the caller is in line or holds the lock
+// this isn't possible, and its memory is lost.
 class caller {
   public:
-    caller(caller &&other) noexcept : own_(std::exchange(other.own_, {})) {}
-    caller &operator=(caller &&other) noexcept { return std::swap(own_, other.own_), *this; }
-    ~caller() {
-        if (own_.own)
-            mc2_caller_free(&own_);
+    caller() : impl_() {}
+    caller(caller &&other) noexcept : impl_(std::exchange(other.impl_, {})) {}
+    caller &operator=(caller &&other) noexcept {
+        caller moved(std::move(other));
+        return std::swap(impl_, moved.impl_), *this;
     }
+    ~caller() { free(); }
 
-    // Waits for the object. A caller that has it, or was taken back or moved from, gets no hold.
-    std::optional<hold> acquire() {
-        uint64_t looks = 0;
-        return own_.own ? made(mc2_acquire(&own_, &looks), &looks) : std::nullopt;
-    }
+    static expected<caller> open(class cell &cell);
+    // A caller of another cell is refused.
+    mc2_result close(class cell &cell);
+    // Returns MC2_DONE for an empty caller.
+    mc2_result free() { return priv_result(mc2_caller_free(&impl_)); }
 
-    // The object, if nobody has it or is in line for it.
-    std::optional<hold> try_acquire() {
-        const uint64_t looks = 1;
-        return own_.own ? made(MC2_IRQ_OFF(mc2_poll_try_acquire(&own_)), &looks) : std::nullopt;
-    }
-
-    // Waits for the object, does the call, and gives the object back. The looks are written if they are asked for.
-    expected<mc2_reply> call(const mc2_call &asked, uint64_t *looks = nullptr) {
-        mc2_reply reply = {};
-        return own_.own ? told(mc2_cell_call(&own_, &asked, &reply, looks ? looks : &looks_), reply) : MC2_REFUSED;
-    }
-
-    // The same of 1 to 8 calls, which are one event: up to and with the first whose reply refuses it.
-    expected<mc2_replies> batch(const mc2_batch &asked, uint64_t *looks = nullptr) {
-        mc2_replies replies = {};
-        return own_.own ? told(mc2_cell_batch(&own_, &asked, &replies, looks ? looks : &looks_), replies) : MC2_REFUSED;
-    }
-
-    // The call, if nobody has the object or is in line for it, and else MC2_BUSY.
-    expected<mc2_reply> try_call(const mc2_call &asked) {
-        mc2_reply reply = {};
-        return own_.own ? told(mc2_cell_try_call(&own_, &asked, &reply), reply) : MC2_REFUSED;
-    }
+    expected<hold> acquire() { return held(impl_.impl ? priv_result(mc2_acquire(&impl_)) : MC2_REFUSED); }
+    expected<hold> try_acquire() { return held(impl_.impl ? priv_result(mc2_try_acquire(&impl_)) : MC2_REFUSED); }
+    expected<mc2_reply> call(const mc2_call &call) { return perform(mc2_cell_call, call); }
+    expected<mc2_replies> batch(const mc2_batch &batch) { return perform(mc2_cell_batch, batch); }
+    expected<mc2_reply> try_call(const mc2_call &call) { return perform(mc2_cell_try_call, call); }
+    uint64_t looks() const { return mc2_caller_looks(&impl_); }
 
   private:
     friend class cell;
-    caller() : own_() {}
-    std::optional<hold> made(uint32_t told, const uint64_t *looks) {
-        bool is_held = told == MC2_ACQUIRED || told == MC2_ACQUIRED_BY_LOOK;
-        return is_held ? std::optional<hold>(hold(&own_, *looks)) : std::nullopt;
+    template <typename Call, typename Reply>
+    expected<Reply> perform(uint32_t (*function)(mc2_caller *, const Call *, Reply *), const Call &call) {
+        Reply reply = {};
+        return impl_.impl ? priv_result(function(&impl_, &call, &reply), reply) : MC2_REFUSED;
     }
-    template <typename Value> static expected<Value> told(uint32_t told, const Value &value) {
-        return told == MC2_DONE ? expected<Value>(value) : static_cast<mc2_result>(told);
+    expected<hold> held(mc2_result result) {
+        return result == MC2_DONE ? expected<hold>(hold(&impl_)) : expected<hold>(result);
     }
-    mc2_caller own_;
-    uint64_t looks_ = 0;
+    mc2_caller impl_;
 };
 
-// An object behind a lock.
+// An object behind a lock. The destructor frees the cell.
 class cell {
   public:
-    // A cell around such an object, for so many CPUs.
-    static expected<cell> open(const mc2_object &object, uint32_t cpus) {
-        cell made(new (std::nothrow) mc2_cell());
-        if (!made.own_)
-            return MC2_NO_MEMORY;
-        uint32_t told = mc2_cell_open_bare(made.own_.get(), &object, cpus);
-        return told == MC2_DONE ? expected<cell>(std::move(made)) : static_cast<mc2_result>(told);
+    static expected<cell> open(const mc2_object &object, caller *callers, uint32_t cpus) {
+        expected<cell> opened = open_bare(object, cpus);
+        for (uint32_t cpu = cpus; opened && cpu > 0;) {
+            expected<caller> next = caller::open(*opened);
+            if (next)
+                callers[--cpu] = std::move(*next);
+            else
+                opened->free(callers + cpu, cpus - cpu), opened = next.result();
+        }
+        return opened;
+    }
+    static expected<cell> open_bare(const mc2_object &object, uint32_t cpus) {
+        cell opened(new (std::nothrow) mc2_cell());
+        mc2_result result = opened.impl_ ? priv_result(mc2_cell_open_bare(opened.impl_.get(), &object, cpus)) : MC2_NO_MEMORY;
+        return result == MC2_DONE ? expected<cell>(std::move(opened)) : expected<cell>(result);
     }
 
-    // A caller of the greatest CPU that has none yet.
-    expected<caller> open_caller() {
-        caller made;
-        uint32_t told = mc2_caller_open(own_.get(), &made.own_);
-        return told == MC2_DONE ? expected<caller>(std::move(made)) : static_cast<mc2_result>(told);
+    mc2_result close(caller *callers = nullptr, uint32_t count = 0) {
+        mc2_result result = get() ? MC2_DONE : MC2_REFUSED;
+        for (uint32_t at = 0; at < count && result == MC2_DONE; at++)
+            result = callers[at].impl_.impl ? callers[at].close(*this) : MC2_DONE;
+        return result == MC2_DONE ? priv_result(mc2_cell_close(get(), nullptr, 0)) : result;
+    }
+    void free(caller *callers = nullptr, uint32_t count = 0) {
+        for (uint32_t at = 0; at < count; at++)
+            callers[at].free();
+        if (get())
+            mc2_cell_free(get(), nullptr, 0);
     }
 
-    // Takes an idle caller back, whose CPU has to be the least that wasn't taken back yet. One of another cell is refused.
-    mc2_result take_back(caller &back) {
-        bool is_own = back.own_.own && back.own_.resting == &own_->resting;
-        return is_own ? static_cast<mc2_result>(mc2_handle_return_caller(own_.get(), &back.own_)) : MC2_REFUSED;
+    expected<mc2_logged_step> read_step(size_t event, size_t index) {
+        mc2_logged_step step = {};
+        return get() ? priv_result(mc2_cell_read_step(get(), event, index, &step), step) : MC2_REFUSED;
     }
-
-    // Ends the cell, once all callers were taken back. What is left is the log.
-    mc2_result close() { return static_cast<mc2_result>(mc2_handle_close_cell(own_.get())); }
-
-    // The step at that place of an event of the log of a cell that was closed, both from 0.
-    std::optional<mc2_logged_step> step(size_t event, size_t step) {
-        mc2_logged_step told = {};
-        return mc2_handle_read_step(own_.get(), event, step, &told) == MC2_DONE ? std::optional(told) : std::nullopt;
-    }
-
-    // Writes the record of a cell that was closed, of which noted[k] are the notes of CPU k: one of mc2_result.
-    int write_record(const mc2_object &object, const mc2_cell_noted *noted, uint32_t cpus, mc2_write_fn take, void *to) {
-        return mc2_cell_write_record_to(own_.get(), &object, noted, cpus, take, to);
+    mc2_result drop_log() { return get() ? priv_result(mc2_cell_drop_log(get())) : MC2_REFUSED; }
+    mc2_result reopen(uint32_t lock, uint32_t cpus) { return get() ? priv_result(mc2_cell_reopen(get(), lock, cpus)) : MC2_REFUSED; }
+    mc2_result write_record_to(const mc2_object &object, const mc2_cell_noted *noted, uint32_t cpus, mc2_write_fn write, void *to) {
+        return get() ? static_cast<mc2_result>(mc2_cell_write_record_to(get(), &object, noted, cpus, write, to)) : MC2_REFUSED;
     }
 
   private:
-    struct freeing {
-        void operator()(mc2_cell *cell) const {
-            if (cell->own)
-                mc2_cell_free_bare(cell);
-            delete cell;
-        }
+    friend class caller;
+    struct deleter {
+        void operator()(mc2_cell *cell) const { mc2_cell_free(cell, nullptr, 0), delete cell; }
     };
-    explicit cell(mc2_cell *made) : own_(made) {}
-    std::unique_ptr<mc2_cell, freeing> own_;
+    explicit cell(mc2_cell *opened) : impl_(opened) {}
+    mc2_cell *get() const { return impl_ && impl_->impl ? impl_.get() : nullptr; }
+    std::unique_ptr<mc2_cell, deleter> impl_;
 };
+
+inline expected<caller> caller::open(class cell &cell) {
+    caller opened;
+    mc2_result result = cell.get() ? priv_result(mc2_caller_open(cell.get(), &opened.impl_)) : MC2_REFUSED;
+    return result == MC2_DONE ? expected<caller>(std::move(opened)) : expected<caller>(result);
+}
+
+inline mc2_result caller::close(class cell &cell) {
+    bool is_of_cell = impl_.impl && cell.get() && impl_.waiters == &cell.get()->waiters;
+    return is_of_cell ? priv_result(mc2_caller_close(cell.get(), &impl_)) : MC2_REFUSED;
+}
 
 } // namespace mc2
 

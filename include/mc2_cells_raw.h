@@ -4,11 +4,12 @@
 // caller obligations of mc2_cells.h apply.
 //
 // Common to all of them:
+//   Returns   MC2_REFUSED if the handle isn't in a state that the function needs. A refused call changes nothing.
 //   Context   Non-blocking: none waits for another CPU. Those marked [heap] call rattle_alloc or rattle_dealloc. An interrupt
-//             handler must not call objects if it came within another call of this header on the same CPU: where handlers call
-//             objects, disable interrupts around each call (MC2_IRQ_OFF).
+//             handler may call only mc2_poll_try_acquire, mc2_poll_try_call, mc2_apply_step and mc2_release_step, by a caller of
+//             a CPU number of its own, and not if it came within another call of this header. So where handlers call objects,
+//             disable interrupts around each call (MC2_IRQ_OFF).
 //   Locking   One call at a time per cell handle and per caller. Different callers of one cell may be used concurrently.
-//   Returns   MC2_REFUSED if the handle isn't in the state that the function needs. A refused call changes nothing.
 //   Ordering  Sequentially consistent atomic operations, by reading.
 #ifndef MC2_CELLS_RAW_H
 #define MC2_CELLS_RAW_H
@@ -26,7 +27,7 @@ struct mc2_cell {
     struct mc2_waiters waiters;
 };
 
-// A caller: the library's part, the waiters of its cell, and how often its last call read the lock.
+// A caller: the library's part, the waiters of its cell, and the looks of its last call.
 struct mc2_caller {
     void *impl;
     struct mc2_waiters *waiters;
@@ -62,7 +63,7 @@ uint32_t mc2_handle_free(struct mc2_handle handle);
 //          used again or freed.
 uint32_t mc2_handle_open_cell(struct mc2_cell *cell, const struct mc2_cell_opening *opening);
 
-// Creates, in the empty handle `caller`, the caller of the highest CPU number that has none. [heap]
+// Creates, in the empty handle `caller`, the caller of the highest CPU number that has none.
 // Returns  MC2_DONE; MC2_REFUSED: the cell isn't open, each of its CPUs has a caller, or `caller` isn't empty; MC2_NO_MEMORY:
 //          2^63 callers share the cell.
 uint32_t mc2_handle_open_caller(struct mc2_cell *cell, struct mc2_caller *caller);
@@ -74,19 +75,16 @@ uint32_t mc2_handle_open_caller(struct mc2_cell *cell, struct mc2_caller *caller
 uint32_t mc2_handle_return_caller(struct mc2_cell *cell, struct mc2_caller *caller);
 
 // Closes a cell to which every caller was returned. The object and its log remain. [heap]
-// Returns  MC2_DONE; MC2_REFUSED: the cell isn't open, or a caller is still out; MC2_BUSY.
+// Returns  MC2_DONE; MC2_REFUSED: the cell isn't open, or a caller is still out; MC2_BUSY, see mc2_result.h.
 uint32_t mc2_handle_close_cell(struct mc2_cell *cell);
 
-// Reads one step of the log of a closed cell. Both indices count from 0; an event has one step for each of its 1 to 8 calls.
-// Returns  MC2_DONE: *step is written; MC2_NOT_FOUND: no such step, the cell isn't closed, or its log isn't kept.
+// Reads one step of the log of a closed cell, as mc2_cell_read_step.
 uint32_t mc2_handle_read_step(struct mc2_cell *cell, size_t event, size_t index, struct mc2_logged_step *step);
 
-// Reopens a closed cell on its object, behind either lock, for 1 to 64 CPUs. The log continues with the room that was left. [heap]
-// Returns  MC2_DONE; MC2_REFUSED: the cell isn't closed; MC2_BAD_PARAM, MC2_NO_MEMORY: it is still closed, as before.
+// Reopens a closed cell on its object, as mc2_cell_reopen. [heap]
 uint32_t mc2_handle_reopen_cell(struct mc2_cell *cell, uint32_t lock, uint32_t cpus);
 
-// Frees the log of a closed cell. From then on its log isn't kept: it can't be read, and has room for 2^64 - 1 events. [heap]
-// Returns  MC2_DONE; MC2_REFUSED: the cell isn't closed.
+// Frees the log of a closed cell, as mc2_cell_drop_log. [heap]
 uint32_t mc2_handle_drop_log(struct mc2_cell *cell);
 
 // ---- The lock, one step at a time
@@ -102,8 +100,7 @@ uint32_t mc2_acquire_step(struct mc2_caller *caller);
 //          it doesn't hold the lock, or isn't a caller.
 uint32_t mc2_release_step(struct mc2_caller *caller);
 
-// Acquires the lock if no one holds it or is in line. Looks at it once at most. Interrupt handlers may call this with a caller of
-// their own.
+// Acquires the lock if no one holds it or is in line. Looks at it once at most.
 // Returns  MC2_ACQUIRED_BY_LOOK; MC2_BUSY: nothing was changed; MC2_REFUSED: the caller isn't idle, or isn't a caller.
 uint32_t mc2_poll_try_acquire(struct mc2_caller *caller);
 
@@ -117,7 +114,7 @@ uint32_t mc2_apply_step(struct mc2_caller *caller, const struct mc2_call *call, 
 // once at most. Each look adds 1 to *looks.
 // Returns  MC2_DONE: *reply is written, and the caller is idle.
 //          MC2_LOG_FULL: the call wasn't performed, and the caller is idle.
-//          MC2_AGAIN: the caller is in line, and the object is untouched. Pause, then call again with the same arguments.
+//          MC2_AGAIN: the caller is in line, and the object is untouched. Pause, then call again.
 //          MC2_DONE_HELD, MC2_LOG_FULL_HELD: as without HELD, but a successor hasn't linked itself yet, so the lock is still
 //          held. Release it by mc2_release or mc2_release_step.
 //          MC2_NOT_FOUND: there is no such call. A caller in line stays there.
@@ -130,7 +127,7 @@ uint32_t mc2_poll_call(struct mc2_caller *caller, const struct mc2_call *call, s
 //          unspecified.
 uint32_t mc2_poll_batch(struct mc2_caller *caller, const struct mc2_batch *batch, struct mc2_replies *replies, uint64_t *looks);
 
-// As mc2_poll_call, but never joins the line. Interrupt handlers may call this with a caller of their own.
+// As mc2_poll_call, but never joins the line.
 // Returns  as mc2_poll_call, with MC2_BUSY in place of MC2_AGAIN: nothing was done, and the caller is idle. MC2_REFUSED: the caller
 //          isn't idle, or isn't a caller.
 uint32_t mc2_poll_try_call(struct mc2_caller *caller, const struct mc2_call *call, struct mc2_reply *reply);

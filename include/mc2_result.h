@@ -1,4 +1,5 @@
-// mc2_result.h - what the functions of all mc2 headers return: 0 for success, and a positive number otherwise.
+// mc2_result.h - the results of the functions of mc2 headers: 0 for success, and a positive number otherwise. mc2_judge.h and
+// mc2_custom.h return verdicts instead.
 #ifndef MC2_RESULT_H
 #define MC2_RESULT_H
 
@@ -6,21 +7,21 @@ enum mc2_result {
     // Success.
     MC2_DONE = 0,
 
-    // ---- Cells, callers and locks. The library returns these numbers: its contract pins each of them.
+    // ---- Cells, callers and locks. The library returns these numbers: a contract pins each of them.
 
     // The caller is in line and its turn hasn't come: pause, then call again.
     MC2_AGAIN = 1,
-    // The caller holds the lock: it found the lock free without a look, or by a look.
+    // The caller holds the lock: it entered an empty MCS queue, without a look; or a look showed that its turn has come.
     MC2_ACQUIRED = 2,
     MC2_ACQUIRED_BY_LOOK = 3,
     // The lock is released, and the caller is idle.
     MC2_RELEASED = 4,
-    // The cell or the caller isn't in a state that allows the call. Nothing was changed.
+    // The cell or the caller isn't in a state that allows the call, or a batch has 0 or more than 8 calls. Nothing was changed.
     MC2_REFUSED = 5,
     // A try: another caller holds the lock or is in line for it. Closing: the library still shares the cell, which doesn't happen
     // if the obligations of mc2_cells.h are met.
     MC2_BUSY = 6,
-    // One step of the lock is done. The next may follow without a pause.
+    // One step of the lock is done. Take the next without a pause.
     MC2_STEPPED = 7,
     // The log has no room for another event. The call was not performed.
     MC2_LOG_FULL = 8,
@@ -46,12 +47,13 @@ enum mc2_result {
     MC2_BAD_STEP = 37,
     // Two CPUs were inside one lock at the same time.
     MC2_MIXED = 38,
-    // The function that writes the record failed. The record may have been written in part.
+    // Writing the record failed. It may have been written in part.
     MC2_WRITE_FAILED = 39
 };
 
-// Returns a short English text for a result, such as "out of memory". The text is constant; don't free it.
-static inline const char *mc2_result_text(int result) {
+// Returns a short English text for a result, such as "out of memory". The text is constant; don't free it. `long long` takes each
+// type of result without a cast.
+static inline const char *mc2_result_text(long long result) {
     static const char *const cells[] = {"done", "in line, call again", "acquired", "acquired by a look", "released",
         "not allowed in this state", "busy", "one step done", "the log is full", "no such call or step", "out of memory",
         "an argument is out of range", "done, the lock is still held", "the log is full, the lock is still held"};

@@ -1,11 +1,11 @@
-// How callers of a cell wait, from C or C++: the loops of mc2_cells.h call what is here. It is how the locks wait in Rattle
-// (crates/word_rule/src/resting.rt). Nothing here is proved.
+// mc2_wait.h - how callers of a cell wait. mc2_cells.h includes it. Nothing here is proved.
 //
-// A line in order of arrival gets on only as fast as each in it gets a processor. So there shouldn't be more in line than there
-// are processors. Who has looked in vain for long naps between two looks, which shows that there are; and who comes meanwhile
-// stays outside for one nap, before it arrives in line. Nobody is woken: each nap ends by itself.
+// A FIFO lock is handed on only as fast as each waiter is scheduled, so there should be no more waiters in line than processors.
+// Between its looks a waiter spins, and from the 120th failed look on it sleeps: this shows that there are more waiters than
+// processors. While a waiter sleeps, callers that come later are throttled: each sleeps once before it joins the line. No one is
+// woken: each sleep ends by itself. The locks for Rattle wait in the same way (crates/word_rule/src/resting.rt).
 //
-// Define MC2_PAUSE and MC2_USLEEP before this header to wait in another way.
+// To wait in another way, define MC2_PAUSE or MC2_USLEEP before this header.
 #ifndef MC2_WAIT_H
 #define MC2_WAIT_H
 
@@ -15,8 +15,11 @@
 #include <stdint.h>
 #endif
 
-// Lets about so many microseconds go by, or fewer, while others run. Without an operating system it isn't there, unless you
-// define it: then callers look again and again, and nobody stays outside.
+// Internal: cold paths, never inlined.
+#define MC2_PRIV_COLD __attribute__((__noinline__, __cold__, __unused__)) static
+
+// Sleeps for about this many microseconds, or less. The default, thrd_sleep, is a cancellation point. There is no default without
+// an operating system: waiters then only spin, and no one is throttled.
 #if !defined MC2_USLEEP && __STDC_HOSTED__ && !defined MC2_FREESTANDING && !defined __STDC_NO_THREADS__
 #include <threads.h>
 #include <time.h>
@@ -29,21 +32,21 @@ static inline void mc2_priv_usleep(uint32_t microseconds) {
 }
 #endif
 
-// Pauses behind a look in vain, of which there were so many one after another.
+// Pauses after a failed look, the `looks`-th in a row. The default executes 2 to the power of (looks mod 6) pause instructions.
 #ifndef MC2_PAUSE
 #define MC2_PAUSE(looks) mc2_priv_pause(looks)
 #endif
 
-// From this look in vain on a caller in line naps, so many microseconds each time; and so many looks are a round of pauses.
+// Internal: the failed look from which a waiter sleeps, for how many microseconds, and the looks in a round of pauses.
 enum { MC2_PRIV_LONG_WAIT = 120, MC2_PRIV_SLEEP_IN_LINE = 100, MC2_PRIV_ROUND = 6 };
 
-// How long one stays outside alone, how much longer for each other one outside, and of how many others at most.
+// Internal: the microseconds of a throttled caller, those for each other one, and the most others that are counted.
 enum { MC2_PRIV_THROTTLE = 1000, MC2_PRIV_THROTTLE_EACH = 250, MC2_PRIV_MOST_OTHERS = 64 };
 
-// Who rests at a cell: the low half counts those who nap in line, the high half those outside. Nothing hangs on its order.
+// The waiters of a cell: the low half of the word counts those that sleep in line, the high half those that are throttled. Only
+// speed depends on it, so its accesses are relaxed.
 struct mc2_waiters { uint64_t word; };
 
-// Longer from look to look of a round.
 static inline void mc2_priv_pause(uint64_t looks) {
     for (uint32_t left = (uint32_t)1 << looks % MC2_PRIV_ROUND; left > 0; left--) {
 #if defined __x86_64__ || defined __i386__
@@ -55,49 +58,49 @@ static inline void mc2_priv_pause(uint64_t looks) {
 }
 
 #ifdef MC2_USLEEP
-// Stays outside for one nap.
-__attribute__((__noinline__, __cold__, __unused__)) static void mc2_priv_throttle_sleep(struct mc2_waiters *resting) {
-    const uint64_t outside = (uint64_t)1 << 32;
-    uint32_t others = (uint32_t)(__atomic_fetch_add(&resting->word, outside, __ATOMIC_RELAXED) / outside);
+MC2_PRIV_COLD void mc2_priv_throttle_sleep(struct mc2_waiters *waiters) {
+    const uint64_t throttled = (uint64_t)1 << 32;
+    uint32_t others = (uint32_t)(__atomic_fetch_add(&waiters->word, throttled, __ATOMIC_RELAXED) / throttled);
     others = others > MC2_PRIV_MOST_OTHERS ? (uint32_t)MC2_PRIV_MOST_OTHERS : others;
     MC2_USLEEP(MC2_PRIV_THROTTLE + MC2_PRIV_THROTTLE_EACH * others);
-    __atomic_fetch_sub(&resting->word, outside, __ATOMIC_RELAXED);
+    __atomic_fetch_sub(&waiters->word, throttled, __ATOMIC_RELAXED);
 }
 #endif
 
-// What a caller does before it arrives in line: while somebody naps there, it stays outside for one nap.
-static inline void mc2_throttle(struct mc2_waiters *resting) {
+// Throttles a caller that is about to join the line: sleeps once if a waiter sleeps in line.
+static inline void mc2_throttle(struct mc2_waiters *waiters) {
 #ifdef MC2_USLEEP
-    if ((uint32_t)__atomic_load_n(&resting->word, __ATOMIC_RELAXED) != 0)
-        mc2_priv_throttle_sleep(resting);
+    if ((uint32_t)__atomic_load_n(&waiters->word, __ATOMIC_RELAXED) != 0)
+        mc2_priv_throttle_sleep(waiters);
 #else
-    (void)resting;
+    (void)waiters;
 #endif
 }
 
-// What a caller in line does after so many looks in vain: it pauses, or naps.
-static inline void mc2_backoff(struct mc2_waiters *resting, uint64_t looks) {
+// Waits after a failed look: pauses, or sleeps.
+//   failed   the failed looks in a row, this one included: 1, 2, 3 ..
+static inline void mc2_backoff(struct mc2_waiters *waiters, uint64_t failed) {
 #ifdef MC2_USLEEP
-    if (looks == MC2_PRIV_LONG_WAIT)
-        __atomic_fetch_add(&resting->word, 1, __ATOMIC_RELAXED);
-    if (looks >= MC2_PRIV_LONG_WAIT) {
+    if (failed == MC2_PRIV_LONG_WAIT)
+        __atomic_fetch_add(&waiters->word, 1, __ATOMIC_RELAXED);
+    if (failed >= MC2_PRIV_LONG_WAIT) {
         MC2_USLEEP(MC2_PRIV_SLEEP_IN_LINE);
         return;
     }
 #else
-    (void)resting;
+    (void)waiters;
 #endif
-    MC2_PAUSE(looks);
+    MC2_PAUSE(failed);
 }
 
-// What a caller in line does when its turn has come, after so many looks in vain.
-static inline void mc2_backoff_end(struct mc2_waiters *resting, uint64_t looks) {
+// Ends a wait. Call it once the waiter's turn has come, with the number of failed looks, which may be 0.
+static inline void mc2_backoff_end(struct mc2_waiters *waiters, uint64_t failed) {
 #ifdef MC2_USLEEP
-    if (looks >= MC2_PRIV_LONG_WAIT)
-        __atomic_fetch_sub(&resting->word, 1, __ATOMIC_RELAXED);
+    if (failed >= MC2_PRIV_LONG_WAIT)
+        __atomic_fetch_sub(&waiters->word, 1, __ATOMIC_RELAXED);
 #else
-    (void)resting;
-    (void)looks;
+    (void)waiters;
+    (void)failed;
 #endif
 }
 

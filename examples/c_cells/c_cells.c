@@ -1,10 +1,11 @@
 /* use: c_cells ticket|mcs queue|pool|console|sched [THREADS [CALLS]]
 
-   THREADS threads, 8 if none are named, each a caller of one cell, call its object CALLS times each, 10,000 if none are named. In
-   turn these are whole calls, a call by single steps, a try by single steps, a whole call by a try, and batches of 1 to 8 calls; a
-   try that finds the object busy is followed by a call that waits. Prints the record, which `mc2 audit` judges.
+   THREADS threads (default: 8) make CALLS calls each (default: 10,000) on the object of one cell, each thread by its own caller. They
+   take turns with mc2_cell_call, a call between mc2_acquire and mc2_release, one after mc2_try_acquire, mc2_cell_try_call, and
+   batches of 1 to 8 calls; a try that finds the lock busy is followed by a call that waits. Prints the record, which `mc2 audit`
+   judges.
 
-   Status: 0; 1 if a call is told what it can't be; 2 for wrong words; 3 if memory or a thread is refused. */
+   Status: 0; 1 if a call returns a result that it can't; 2 for wrong words; 3 if there is no memory or no thread. */
 #include "mc2_cells_record.h"
 #include <pthread.h>
 
@@ -17,11 +18,11 @@ struct worker {
     struct mc2_cell_note *notes;
 };
 
-static void must(uint32_t told, uint32_t wanted, const char *what) {
-    if (told == wanted)
+static void must(uint32_t result, uint32_t wanted, const char *what) {
+    if (result == wanted)
         return;
-    fprintf(stderr, "c_cells: %s: told %u\n", what, (unsigned)told);
-    exit(told == MC2_NO_MEMORY ? 3 : 1);
+    fprintf(stderr, "c_cells: %s: %s\n", what, mc2_result_text(result));
+    exit(result == MC2_NO_MEMORY ? 3 : 1);
 }
 
 static uint32_t draw(struct worker *worker, uint32_t below) {
@@ -35,33 +36,44 @@ static struct mc2_call any_call(struct worker *worker) {
     return mc2_call_of(word, draw(worker, 16), draw(worker, 16));
 }
 
-/* One call by single steps: it waits for the object, or the caller has it already. */
-static void call_by_steps(struct worker *worker, struct mc2_cell_note *note, int is_held) {
-    if (!is_held) {
-        uint32_t got = mc2_acquire(worker->caller, &note->looks);
-        must(got == MC2_ACQUIRED || got == MC2_ACQUIRED_BY_LOOK, 1, "acquire");
-    }
-    note->told = mc2_apply_step(worker->caller, note->asked.calls, note->replies.replies);
-    must(mc2_release(worker->caller), MC2_RELEASED, "release");
+/* Performs the call and releases the lock, which the caller holds. */
+static void apply_and_release(struct worker *worker, struct mc2_cell_note *note) {
+    note->result = mc2_apply(worker->caller, note->asked.calls, note->replies.replies);
+    must(mc2_release(worker->caller), MC2_DONE, "release");
+}
+
+static void acquire_and_apply(struct worker *worker, struct mc2_cell_note *note) {
+    must(mc2_acquire(worker->caller), MC2_DONE, "acquire");
+    note->looks = mc2_caller_looks(worker->caller);
+    apply_and_release(worker, note);
 }
 
 static void call_whole(struct worker *worker, struct mc2_cell_note *note) {
-    note->told = mc2_cell_call(worker->caller, note->asked.calls, note->replies.replies, &note->looks);
+    note->result = mc2_cell_call(worker->caller, note->asked.calls, note->replies.replies);
+    note->looks = mc2_caller_looks(worker->caller);
 }
 
-static void try_by_steps(struct worker *worker, struct mc2_cell_note *note) {
-    uint32_t tried = mc2_poll_try_acquire(worker->caller);
-    if (tried != MC2_ACQUIRED_BY_LOOK)
-        must(tried, MC2_BUSY, "try");
+static void try_and_apply(struct worker *worker, struct mc2_cell_note *note) {
+    uint32_t tried = mc2_try_acquire(worker->caller);
     note->looks = 1;
-    call_by_steps(worker, note, tried == MC2_ACQUIRED_BY_LOOK);
+    if (tried == MC2_DONE) {
+        apply_and_release(worker, note);
+    } else {
+        must(tried, MC2_BUSY, "try");
+        acquire_and_apply(worker, note);
+    }
 }
 
 static void try_whole(struct worker *worker, struct mc2_cell_note *note) {
     note->looks = 1;
-    note->told = mc2_cell_try_call(worker->caller, note->asked.calls, note->replies.replies);
-    if (note->told == MC2_BUSY)
+    note->result = mc2_cell_try_call(worker->caller, note->asked.calls, note->replies.replies);
+    if (note->result == MC2_BUSY)
         call_whole(worker, note);
+}
+
+static void call_batch(struct worker *worker, struct mc2_cell_note *note) {
+    note->result = mc2_cell_batch(worker->caller, &note->asked, &note->replies);
+    note->looks = mc2_caller_looks(worker->caller);
 }
 
 static void call(struct worker *worker, struct mc2_cell_note *note, uint32_t way) {
@@ -72,15 +84,15 @@ static void call(struct worker *worker, struct mc2_cell_note *note, uint32_t way
     if (way < 2)
         call_whole(worker, note);
     else if (way == 2)
-        call_by_steps(worker, note, 0);
+        acquire_and_apply(worker, note);
     else if (way == 3)
-        try_by_steps(worker, note);
+        try_and_apply(worker, note);
     else if (way == 4)
         try_whole(worker, note);
     else
-        note->told = mc2_cell_batch(worker->caller, &note->asked, &note->replies, &note->looks);
-    if (note->told != MC2_LOG_FULL)
-        must(note->told, MC2_DONE, "call");
+        call_batch(worker, note);
+    if (note->result != MC2_LOG_FULL)
+        must(note->result, MC2_DONE, "call");
 }
 
 static void *work(void *given) {
@@ -91,14 +103,14 @@ static void *work(void *given) {
 }
 
 static void run(struct mc2_cell *cell, struct worker *workers, uint32_t threads) {
-    must(mc2_handle_close_cell(cell), MC2_REFUSED, "closing too early");
+    must(mc2_cell_close(cell, NULL, 0), MC2_REFUSED, "closing too early");
     for (uint32_t at = 0; at < threads; at++)
         if (pthread_create(&workers[at].thread, NULL, work, &workers[at]) != 0)
             must(MC2_NO_MEMORY, MC2_DONE, "a thread");
     for (uint32_t at = 0; at < threads; at++)
         pthread_join(workers[at].thread, NULL);
     for (uint32_t at = 0; at < threads; at++)
-        must(mc2_release_step(workers[at].caller), MC2_REFUSED, "leaving without the object");
+        must(mc2_release(workers[at].caller), MC2_REFUSED, "releasing a lock that isn't held");
 }
 
 static void print_record(struct mc2_cell *cell, const struct mc2_object *object, const struct worker *workers, uint32_t threads) {
@@ -137,7 +149,7 @@ int main(int count, char **words) {
     run(&cell, workers, (uint32_t)threads);
     must(mc2_cell_close(&cell, callers, (uint32_t)threads), MC2_DONE, "closing");
     print_record(&cell, &object, workers, (uint32_t)threads);
-    must(mc2_cell_free_bare(&cell), MC2_DONE, "freeing the cell");
+    mc2_cell_free(&cell, NULL, 0);
     for (uint32_t at = 0; at < (uint32_t)threads; at++)
         free(workers[at].notes);
     return 0;

@@ -1,10 +1,10 @@
 // use: cells ticket|mcs THREADS CALLS
 //
-// THREADS threads, each with a caller of one cell by mc2_cells.hpp, call its queue CALLS times each: of eight one by a hold, one by
-// a hold from a try, one by a whole try, one batch, and all others whole. Prints the record, which `mc2 audit` judges. It is built
-// without exceptions.
+// THREADS threads call the queue of one cell, CALLS times each, by mc2_cells.hpp. Of eight calls, one is performed after acquire,
+// one after try_acquire (or acquire, if the lock is busy), one by try_call (or call), one by batch, and the others by call. Prints
+// the record, which `mc2 audit` judges. It is built without exceptions.
 //
-// Status: 0; 1 if a call is told what it can't be; 2 for wrong words; 3 if memory is refused.
+// Status: 0; 1 if a call returns a wrong result; 2 for wrong arguments; 3 if there is too little memory.
 #include "mc2_cells.hpp"
 #include <cstdio>
 #include <cstdlib>
@@ -14,79 +14,69 @@
 
 enum { QUEUE = 12 };
 
-static void must(bool is_so, const char *what, mc2_result told = MC2_REFUSED) {
-    if (is_so)
+static void must(mc2_result result, mc2_result wanted, const char *what) {
+    if (result == wanted)
         return;
-    std::fprintf(stderr, "cells: %s: told %d\n", what, told);
-    std::exit(told == MC2_NO_MEMORY ? 3 : 1);
+    std::fprintf(stderr, "cells: %s: %s\n", what, mc2_result_text(result));
+    std::exit(result == MC2_NO_MEMORY ? 3 : 1);
 }
 
-// Such a call of the queue for each number.
+// Returns a call of the queue, which depends on the CPU and the number of the call.
 static mc2_call call_of(uint32_t cpu, uint32_t number) {
     static const uint32_t words[] = {MC2_ENQ, MC2_DEQ, MC2_LEN, MC2_REMOVE, MC2_ENQ};
     return mc2_call_of(words[(number * 7 + cpu * 3) % 5], (number + cpu * 5) % (QUEUE + 1), 0);
 }
 
-static void write(mc2_cell_note &it, mc2::expected<mc2_reply> reply) {
-    it.told = reply.told();
-    it.replies.count = reply ? 1 : 0;
-    it.replies.replies[0] = reply ? *reply : mc2_reply();
+static void write(mc2_cell_note &note, mc2::expected<mc2_reply> reply) {
+    note.result = reply.result();
+    note.replies.count = reply ? 1 : 0;
+    note.replies.replies[0] = reply ? *reply : mc2_reply();
 }
 
-// The call under a hold, which is given back at its end. While it lasts, the caller gets no other.
-static void call_held(mc2::caller &caller, mc2::hold held, mc2_cell_note &it) {
-    must(!caller.acquire() && !caller.try_acquire(), "a second hold");
-    it.looks = held.looks();
-    write(it, held.call(it.asked.calls[0]));
+static void call_batch(mc2::caller &caller, mc2_cell_note &note) {
+    mc2::expected<mc2_replies> replies = caller.batch(note.asked);
+    note.result = replies.result();
+    note.replies = replies ? *replies : mc2_replies();
 }
 
-static void call_batch(mc2::caller &caller, mc2_cell_note &it) {
-    mc2::expected<mc2_replies> replies = caller.batch(it.asked, &it.looks);
-    it.told = replies.told();
-    it.replies = replies ? *replies : mc2_replies();
+// Performs the note's call while it holds the lock, which is released at the end.
+static void call_held(mc2::caller &caller, bool is_try, mc2_cell_note &note) {
+    mc2::expected<mc2::hold> held = is_try ? caller.try_acquire() : caller.acquire();
+    if (held.result() == MC2_BUSY)
+        held = caller.acquire();
+    must(held.result(), MC2_DONE, "acquiring");
+    must(caller.acquire().result(), MC2_REFUSED, "acquiring twice");
+    must(caller.try_acquire().result(), MC2_REFUSED, "trying while it holds the lock");
+    write(note, held->apply(note.asked.calls[0]));
 }
 
 static mc2_cell_note call(mc2::caller &caller, uint32_t cpu, uint32_t number) {
-    mc2_cell_note it = {1, {1, {}}, {}, MC2_BUSY};
-    it.asked.count = number % 8 == 3 ? 1 + number / 8 % MC2_MOST_CALLS : 1;
-    for (uint32_t at = 0; at < it.asked.count; at++)
-        it.asked.calls[at] = call_of(cpu, number + at);
-    std::optional<mc2::hold> held = number % 8 == 7 ? caller.try_acquire() : std::nullopt;
-    if (!held && (number % 8 == 7 || number % 8 == 0))
-        held = caller.acquire();
-    if (held) {
-        call_held(caller, std::move(*held), it);
-        return it;
-    }
-    if (number % 8 == 3)
-        call_batch(caller, it);
-    if (number % 8 == 5)
-        write(it, caller.try_call(it.asked.calls[0]));
-    if (it.told == MC2_BUSY)
-        write(it, caller.call(it.asked.calls[0], &it.looks));
-    return it;
+    mc2_cell_note note = {0, {1, {}}, {}, MC2_BUSY};
+    uint32_t way = number % 8;
+    note.asked.count = way == 3 ? 1 + number / 8 % MC2_MOST_CALLS : 1;
+    for (uint32_t at = 0; at < note.asked.count; at++)
+        note.asked.calls[at] = call_of(cpu, number + at);
+    if (way == 0 || way == 7)
+        call_held(caller, way == 7, note);
+    else if (way == 3)
+        call_batch(caller, note);
+    else if (way == 5)
+        write(note, caller.try_call(note.asked.calls[0]));
+    if (note.result == MC2_BUSY)
+        write(note, caller.call(note.asked.calls[0]));
+    note.looks = caller.looks();
+    return note;
 }
 
 static void print_record(mc2::cell &cell, const mc2_object &object, const std::vector<std::vector<mc2_cell_note>> &notes) {
     std::vector<mc2_cell_noted> noted;
-    for (const std::vector<mc2_cell_note> &own : notes)
-        noted.push_back({own.data(), (uint32_t)own.size()});
-    must(cell.write_record(object, noted.data(), (uint32_t)noted.size(), mc2_write_to_file, stdout) == MC2_DONE, "writing");
+    for (const std::vector<mc2_cell_note> &of_cpu : notes)
+        noted.push_back({of_cpu.data(), (uint32_t)of_cpu.size()});
+    mc2_result result = cell.write_record_to(object, noted.data(), (uint32_t)noted.size(), mc2_write_to_file, stdout);
+    must(result, MC2_DONE, "writing");
 }
 
-// The callers, that of the least CPU first.
-static std::vector<mc2::caller> callers_of(mc2::cell &cell, uint32_t cpus) {
-    std::vector<mc2::caller> callers;
-    for (uint32_t at = 0; at < cpus; at++) {
-        mc2::expected<mc2::caller> made = cell.open_caller();
-        must(bool(made), "a caller", made.told());
-        callers.insert(callers.begin(), std::move(*made));
-    }
-    must(cell.open_caller().told() == MC2_REFUSED, "a caller too many");
-    return callers;
-}
-
-// Each caller on a thread of its own.
+// Lets each caller make its calls on a thread. Returns the notes of each.
 static std::vector<std::vector<mc2_cell_note>> run(std::vector<mc2::caller> &callers, uint32_t calls) {
     std::vector<std::vector<mc2_cell_note>> notes(callers.size());
     std::vector<std::thread> threads;
@@ -100,15 +90,16 @@ static std::vector<std::vector<mc2_cell_note>> run(std::vector<mc2::caller> &cal
     return notes;
 }
 
-// All callers go back, in their order and to no other cell, and the cell ends.
-static void end(mc2::cell &cell, mc2::cell &other, std::vector<mc2::caller> &callers) {
+// Closes the callers in order of CPU, and the cell. The other cell refuses them.
+static void close(mc2::cell &cell, mc2::cell &other, std::vector<mc2::caller> &callers) {
     for (mc2::caller &caller : callers) {
-        must(cell.close() == MC2_REFUSED, "closing too early");
-        must(other.take_back(caller) == MC2_REFUSED, "taking back the caller of another cell");
-        must(cell.take_back(caller) == MC2_DONE, "taking back");
-        must(!caller.acquire() && caller.call(mc2_call_of(MC2_LEN, 0, 0)).told() == MC2_REFUSED, "a caller that is back");
+        must(cell.close(), MC2_REFUSED, "closing a cell before its callers");
+        must(caller.close(other), MC2_REFUSED, "closing a caller of another cell");
+        must(caller.close(cell), MC2_DONE, "closing a caller");
+        must(caller.acquire().result(), MC2_REFUSED, "acquiring by a closed caller");
+        must(caller.call(mc2_call_of(MC2_LEN, 0, 0)).result(), MC2_REFUSED, "calling by a closed caller");
     }
-    must(cell.close() == MC2_DONE, "closing");
+    must(cell.close(), MC2_DONE, "closing the cell");
 }
 
 int main(int count, char **words) {
@@ -120,12 +111,16 @@ int main(int count, char **words) {
         return 2;
     }
     mc2_object object = {"shared", MC2_QUEUE, is_mcs ? (uint32_t)MC2_MCS : (uint32_t)MC2_TICKET, MC2_MOST_EVENTS, QUEUE, 0, NULL};
-    must(mc2::cell::open(object, MC2_MOST_CPUS + 1).told() == MC2_BAD_PARAM, "opening for too many CPUs");
-    mc2::expected<mc2::cell> cell = mc2::cell::open(object, (uint32_t)cpus), other = mc2::cell::open(object, 1);
-    must(cell && other, "opening", cell.told());
-    std::vector<mc2::caller> callers = callers_of(*cell, (uint32_t)cpus);
+    std::vector<mc2::caller> callers((size_t)cpus);
+    mc2::caller other_caller;
+    must(mc2::cell::open_bare(object, MC2_MOST_CPUS + 1).result(), MC2_BAD_PARAM, "opening for too many CPUs");
+    mc2::expected<mc2::cell> cell = mc2::cell::open(object, callers.data(), (uint32_t)cpus);
+    must(cell.result(), MC2_DONE, "opening");
+    mc2::expected<mc2::cell> other = mc2::cell::open(object, &other_caller, 1);
+    must(other.result(), MC2_DONE, "opening");
+    must(mc2::caller::open(*cell).result(), MC2_REFUSED, "opening a caller too many");
     std::vector<std::vector<mc2_cell_note>> notes = run(callers, (uint32_t)calls);
-    end(*cell, *other, callers);
+    close(*cell, *other, callers);
     print_record(*cell, object, notes);
     return 0;
 }

@@ -1,12 +1,15 @@
 /* use: unkept ticket|mcs [CALLS]
 
-   Two threads call one queue, whose log isn't kept in memory. Each does half of CALLS calls, and of 200,000 if none are named:
-   all are done, whatever their number. Prints how many were done, and by how many KiB the memory grew in the second half.
+   Two threads call one queue, whose log isn't kept in memory. Each makes half of CALLS calls (default: 200,000): however many they
+   are, all are performed. Prints how many were performed, and by how many KiB the memory grew in the second half.
 
-   Status: 0; 1 if a call is told what it can't be, or if the memory grew by more than 1 MiB; 2 for wrong words; 3 if memory or
-   a thread is refused. */
+   Status: 0; 1 if a call returns a result that it can't, or if the memory grew by more than 1 MiB; 2 for wrong words; 3 if there
+   is no memory or no thread. */
 #include "mc2_cells.h"
 #include <pthread.h>
+#include <stdio.h>
+#include <stdlib.h>
+#include <string.h>
 #include <sys/resource.h>
 
 enum { THREADS = 2, QUEUE = 8, MOST_GROWTH = 1024 };
@@ -15,22 +18,21 @@ struct worker {
     pthread_t thread;
     struct mc2_caller caller;
     uint32_t calls, done;
-    /* The threads that it has put in, less those that it has taken out. */
+    /* The threads that it has enqueued, less those that it has dequeued. */
     int64_t put;
 };
 
-static void must(uint32_t told, uint32_t wanted, const char *what) {
-    if (told == wanted)
+static void must(uint32_t result, uint32_t wanted, const char *what) {
+    if (result == wanted)
         return;
-    fprintf(stderr, "unkept: %s: told %u\n", what, (unsigned)told);
-    exit(told == MC2_NO_MEMORY ? 3 : 1);
+    fprintf(stderr, "unkept: %s: %s\n", what, mc2_result_text(result));
+    exit(result == MC2_NO_MEMORY ? 3 : 1);
 }
 
 static struct mc2_reply call(struct mc2_caller *caller, uint32_t word, uint32_t thread) {
     struct mc2_call asked = {word, thread, 0};
     struct mc2_reply reply = {0, 0};
-    uint64_t looks;
-    must(mc2_cell_call(caller, &asked, &reply, &looks), MC2_DONE, "call");
+    must(mc2_cell_call(caller, &asked, &reply), MC2_DONE, "call");
     return reply;
 }
 
@@ -44,7 +46,7 @@ static void *work(void *given) {
     return NULL;
 }
 
-/* So many calls of each, and the most memory that the process has had, in KiB. */
+/* Has each worker make `calls` calls. Returns the most memory that the process has had, in KiB. */
 static long after_calls(struct worker *workers, uint32_t calls) {
     for (int at = 0; at < THREADS; at++) {
         workers[at].calls = calls;
@@ -58,29 +60,25 @@ static long after_calls(struct worker *workers, uint32_t calls) {
     return used.ru_maxrss;
 }
 
-/* An opening for more events than can be kept is refused, and so is one of a queue of no threads whose log isn't kept. */
+/* Opening for more events than can be kept fails, and so does opening a queue of no threads. Nothing is left to be freed. */
 static void open_wrongly(struct mc2_object object) {
     struct mc2_cell cell;
     object.events = MC2_MOST_EVENTS + 1;
     must(mc2_cell_open_bare(&cell, &object, THREADS), MC2_BAD_PARAM, "opening for too many events");
-    must(mc2_cell_free_bare(&cell), MC2_DONE, "freeing what has nothing");
     object.events = 0;
     object.size = 0;
     must(mc2_cell_open_bare(&cell, &object, THREADS), MC2_BAD_PARAM, "opening a queue of no threads");
-    must(mc2_cell_free_bare(&cell), MC2_DONE, "freeing what has nothing");
 }
 
-/* The cell ends, and no step of its log is there. */
+/* Closes the cell, whose log has no step to be read. */
 static void end(struct mc2_cell *cell, struct worker *workers) {
-    struct mc2_logged_step told;
-    for (int at = 0; at < THREADS; at++) {
-        must(mc2_handle_return_caller(cell, &workers[at].caller), MC2_DONE, "taking back");
-        must(mc2_caller_free(&workers[at].caller), MC2_DONE, "freeing a caller");
-    }
-    must(mc2_handle_read_step(cell, 0, 0, &told), MC2_NOT_FOUND, "a step of a cell that is open");
-    must(mc2_handle_close_cell(cell), MC2_DONE, "closing");
-    must(mc2_handle_read_step(cell, 0, 0, &told), MC2_NOT_FOUND, "the first step of a log that isn't kept");
-    must(mc2_cell_free_bare(cell), MC2_DONE, "freeing the cell");
+    struct mc2_logged_step step;
+    for (int at = 0; at < THREADS; at++)
+        must(mc2_caller_close(cell, &workers[at].caller), MC2_DONE, "closing a caller");
+    must(mc2_cell_read_step(cell, 0, 0, &step), MC2_NOT_FOUND, "a step of an open cell");
+    must(mc2_cell_close(cell, NULL, 0), MC2_DONE, "closing");
+    must(mc2_cell_read_step(cell, 0, 0, &step), MC2_NOT_FOUND, "the first step of a log that isn't kept");
+    mc2_cell_free(cell, NULL, 0);
 }
 
 int main(int count, char **words) {

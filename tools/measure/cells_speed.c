@@ -2,18 +2,21 @@
 
    THREADS threads call one queue of 8 threads CALLS times each, `enq` and `deq` in turn, and each call is an event of a log.
    Prints the nanoseconds from the first thread's start to the last one's end, and the page faults in between. The memory of
-   each kind's log was written before, so only the threads' own stacks fault.
+   each kind's log is written before, so only the threads' stacks fault.
 
    KIND    name-ticket, name-mcs: a cell of crates/cells, by calls with names (mc2_queue_enq, mc2_queue_deq)
            cell-ticket, cell-mcs: the same by whole calls (mc2_cell_call)
-           steps-ticket, steps-mcs: the same by single steps (mc2_acquire, mc2_apply_step, mc2_release)
-           mutex: a queue in C with a log, the least that one would write, behind a pthread_mutex_t
+           steps-ticket, steps-mcs: the same by single steps (mc2_acquire, mc2_apply, mc2_release)
+           mutex: a queue in C with a log, as simple as one would write it, behind a pthread_mutex_t
            ck-ticket, ck-mcs: the same queue behind a lock of Concurrency Kit, with WITH_CK
    unkept  no kind keeps a log
 
-   Status: 0; 1 if a call is told what it can't be; 2 for wrong words. */
+   Status: 0; 1 if a call returns a result that it can't; 2 for wrong words. */
 #include "mc2_cells.h"
 #include <pthread.h>
+#include <stdio.h>
+#include <stdlib.h>
+#include <string.h>
 #include <sys/resource.h>
 #include <time.h>
 #ifdef WITH_CK
@@ -78,23 +81,21 @@ static ck_spinlock_mcs_t ck_mcs = CK_SPINLOCK_MCS_INITIALIZER;
 typedef int (*caller_t)(uint32_t cpu, const struct mc2_call *call, struct mc2_reply *reply);
 
 static int by_name(uint32_t cpu, const struct mc2_call *call, struct mc2_reply *reply) {
-    uint64_t looks;
     struct mc2_caller *caller = &callers[cpu];
     if (call->word == MC2_ENQ)
-        return mc2_queue_enq(caller, call->first, reply, &looks) == MC2_DONE;
-    return mc2_queue_deq(caller, reply, &looks) == MC2_DONE;
+        return mc2_queue_enq(caller, call->first, reply) == MC2_DONE;
+    return mc2_queue_deq(caller, reply) == MC2_DONE;
 }
 
 static int by_cell(uint32_t cpu, const struct mc2_call *call, struct mc2_reply *reply) {
-    uint64_t looks;
-    return mc2_cell_call(&callers[cpu], call, reply, &looks) == MC2_DONE;
+    return mc2_cell_call(&callers[cpu], call, reply) == MC2_DONE;
 }
 
 static int by_steps(uint32_t cpu, const struct mc2_call *call, struct mc2_reply *reply) {
-    uint64_t looks;
-    mc2_acquire(&callers[cpu], &looks);
-    uint32_t told = mc2_apply_step(&callers[cpu], call, reply);
-    return mc2_release(&callers[cpu]) == MC2_RELEASED && told == MC2_DONE;
+    if (mc2_acquire(&callers[cpu]))
+        return 0;
+    uint32_t result = mc2_apply(&callers[cpu], call, reply);
+    return mc2_release(&callers[cpu]) == MC2_DONE && result == MC2_DONE;
 }
 
 static int by_mutex(uint32_t cpu, const struct mc2_call *call, struct mc2_reply *reply) {
@@ -150,11 +151,8 @@ static void *work(void *given) {
 
 static void open_cell(int lock, uint32_t threads) {
     struct mc2_object object = {"shared", MC2_QUEUE, (uint32_t)lock, is_kept ? MC2_MOST_EVENTS : 0, QUEUE, 0, NULL};
-    if (mc2_cell_open_bare(&cell, &object, threads) != MC2_DONE)
+    if (mc2_cell_open(&cell, &object, callers, threads))
         exit(1);
-    for (uint32_t cpu = threads; cpu-- > 0;)
-        if (mc2_caller_open(&cell, &callers[cpu]) != MC2_DONE)
-            exit(1);
 }
 
 static long long now(void) {

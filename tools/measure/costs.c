@@ -1,15 +1,18 @@
-/* use: sizes queue|sched|pool own|plain SIZE CALLS
+/* use: sizes queue|sched|pool cell|plain SIZE CALLS
 
-   Makes CALLS random calls, the same in each run, on an object of SIZE threads or pages: `own` is a cell behind a ticket lock,
-   whose log isn't kept, `plain` lists and a table that are searched. Prints how many calls were refused, and the sum of the
-   numbers in the other replies. Status: 0; 1 if a call is told what it can't be; 2 for wrong words. */
+   Makes CALLS random calls, the same in each run, on an object of SIZE threads or pages: `cell` is a cell with a ticket lock, whose
+   log isn't kept, `plain` lists and a table that are searched. Prints how many calls were refused, and the sum of the numbers in
+   the other replies. Status: 0; 1 if a call returns a result that it can't; 2 for wrong words. */
 #include "mc2_cells.h"
+#include <stdio.h>
+#include <stdlib.h>
+#include <string.h>
 
 enum { CHANNELS = 8, LISTS = 1 + CHANNELS, OWNER = 1 };
 
 /* The first list is the queue, or the ready threads, and the others are the sleepers of each channel. */
 static struct { uint32_t threads[MC2_MOST_THREADS], count; } lists[LISTS];
-/* One page more than there can be, for who finds none. */
+/* One page more than there can be, for an allocation that finds none. */
 static bool taken[MC2_MOST_PAGES + 1];
 
 static struct mc2_reply take_at(uint32_t list, uint32_t at) {
@@ -18,7 +21,7 @@ static struct mc2_reply take_at(uint32_t list, uint32_t at) {
     return (struct mc2_reply){MC2_THREAD, thread};
 }
 
-/* The place of the thread in that list, or behind it. */
+/* Returns the thread's index in the list, or the list's length. */
 static uint32_t find(uint32_t list, uint32_t thread) {
     uint32_t at = 0;
     for (; at < lists[list].count && lists[list].threads[at] != thread; at++);
@@ -54,8 +57,8 @@ static struct mc2_reply plain(struct mc2_call it, uint32_t size) {
     return reply;
 }
 
-/* Of 16 calls 8 put a thread in and 8 take one out of a queue, 3 of these that of their number. 5 make one ready, 5 put it to
-   sleep, 2 wake one and 4 take one from a scheduler. 7 take a page, 8 give one back, and one counts those that are left. */
+/* Of 16 calls on a queue 8 enqueue a thread, 5 dequeue one and 3 remove one. Of those on a scheduler 5 make a thread ready, 5 put
+   one to sleep, 2 wake one and 4 take the next. Of those on a pool 7 allocate a page, 8 free one, and 1 counts the free ones. */
 static struct mc2_call random_call(uint32_t kind, uint32_t size) {
     static uint64_t state = 88172645463325252;
     state ^= state << 13, state ^= state >> 7, state ^= state << 17;
@@ -75,16 +78,17 @@ int main(int count, char **words) {
     struct mc2_object object = {"one", kind, MC2_TICKET, 0, size, kind == MC2_SCHED ? CHANNELS : 0, NULL};
     struct mc2_cell cell;
     struct mc2_caller caller;
-    if (mc2_cell_open_bare(&cell, &object, 1) != MC2_DONE || mc2_caller_open(&cell, &caller) != MC2_DONE)
+    if (mc2_cell_open(&cell, &object, &caller, 1))
         return 1;
-    uint64_t sum = 0, looks, is_own = strcmp(words[2], "own") == 0;
+    uint64_t sum = 0;
+    bool is_cell = strcmp(words[2], "cell") == 0;
     for (; calls > 0; calls--) {
         struct mc2_call call = random_call(kind, size);
-        struct mc2_reply reply = is_own ? (struct mc2_reply){0, 0} : plain(call, size);
-        if (is_own && mc2_cell_call(&caller, &call, &reply, &looks) != MC2_DONE)
+        struct mc2_reply reply = is_cell ? (struct mc2_reply){0, 0} : plain(call, size);
+        if (is_cell && mc2_cell_call(&caller, &call, &reply))
             return 1;
-        refused += reply.word >= MC2_BADTHREAD;
-        sum += reply.word >= MC2_BADTHREAD ? 0 : reply.number;
+        refused += mc2_refuses(reply.word);
+        sum += mc2_refuses(reply.word) ? 0 : reply.number;
     }
     return printf("%u %llu\n", (unsigned)refused, (unsigned long long)sum) < 0;
 }

@@ -10,7 +10,7 @@ mod replies;
 mod waiting;
 
 pub use callers::{Caller, Hold};
-pub use calls::{Call, Console, Lock, Object, Pool, Queue, Sched};
+pub use calls::{Call, Console, LockKind, Object, Pool, Queue, Sched};
 pub use cells::{Cell, Log};
-pub use judge::{audit, merge, Fault, Turn};
+pub use judge::{audit, merge, EntryId, Fault};
 pub use replies::{Answer, Error, Page, Refusal, Reply};

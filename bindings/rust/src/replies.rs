@@ -1,8 +1,8 @@
-//! What objects answer, and why there is no answer.
-use crate::ffi::Answered;
+//! Replies of objects, answers, refusals and errors.
+use crate::ffi::ReplyWords;
 use core::fmt;
 
-/// A page of a pool, from 0.
+/// A page of a pool, numbered from 0.
 #[derive(Clone, Copy, Debug, PartialEq, Eq, PartialOrd, Ord, Hash)]
 pub struct Page(pub u32);
 impl From<Page> for u32 {
@@ -11,7 +11,7 @@ impl From<Page> for u32 {
 
 macro_rules! refusals {
     ($($name:ident $word:literal),*) => {
-        /// Why an object refused a call, which changed nothing and is in the log. Each call says what refuses it.
+        /// Why an object refused a call. The refused call changed nothing, and is in the log. Each call lists its refusals.
         #[derive(Clone, Copy, Debug, PartialEq, Eq)]
         #[allow(missing_docs)]
         pub enum Refusal { $($name),* }
@@ -24,11 +24,11 @@ refusals! {
     "overquota", BadPage "badpage", NotTaken "nottaken", NotYours "notyours", BadChannel "badchannel", BadCall "badcall"
 }
 
-/// What an object said to a call. It is shown as a record has it.
+/// The reply of an object to a call. `Display` writes it as records have it.
 #[derive(Clone, Copy, Debug, PartialEq, Eq)]
-pub struct Reply(pub(crate) Answered);
+pub struct Reply(pub(crate) ReplyWords);
 impl Reply {
-    /// The answer, if it is one of this type, or else `Refused`, or `Unexpected`.
+    /// Returns the answer if it has this type. Errors: `Refused`; `Unexpected` if it has another type.
     pub fn answer<T: Answer>(self) -> Result<T, Error> {
         let refusal = REFUSALS.get((self.0[0] as usize).wrapping_sub(6));
         T::of(self).ok_or(refusal.map_or(Error::Unexpected(self.0[0]), |why| Error::Refused(*why)))
@@ -42,7 +42,7 @@ impl fmt::Display for Reply {
     }
 }
 
-/// What can be the answer to a call: that it was done, a thread or a count, a byte, a page, or any reply.
+/// The types of answers: `()` for a call that has none, a thread or a count, a byte, a page, or any reply.
 pub trait Answer: Sized {
     #[doc(hidden)]
     fn of(reply: Reply) -> Option<Self>;
@@ -59,20 +59,20 @@ answers! {
     Reply: reply => Some(reply);
 }
 
-/// Why there is no answer. Nothing was done, or the object refused.
+/// Why there is no answer. Unless the object refused the call, nothing was done.
 #[derive(Clone, Copy, Debug, PartialEq, Eq)]
 pub enum Error {
-    /// The object refused the call.
+    /// The object refused the call, which is in the log.
     Refused(Refusal),
-    /// The log is full, and stays so.
-    Full,
-    /// Of a try: another has the object, or is in line. Of a closing: a caller was leaked, as by `mem::forget`.
+    /// The log is full, and stays full.
+    LogFull,
+    /// A try: another caller holds the lock or is in line for it. Closing: a caller was leaked, for example by `mem::forget`.
     Busy,
-    /// Of an opening: memory was refused.
+    /// Opening: the allocator had no memory.
     NoMemory,
-    /// Of an opening: a number is out of its range. Of a batch: it hasn't 1 to 8 calls.
-    BadNumber,
-    /// The answer is of another type, or the library told a number that no use of this crate leads to.
+    /// Opening: a number is out of range. A batch: it has 0 or more than 8 calls.
+    BadParam,
+    /// The answer has another type, or the library returned a result that no use of this crate causes.
     Unexpected(u32),
 }
 impl core::error::Error for Error {}

@@ -1,4 +1,4 @@
--- Steps before others: a caller goes on from where one step has taken it.
+-- Steps before others: a caller continues from where one step has taken it.
 use Rattle.std.specs.{declared.cmp.PartialEq.{Ghosts as Eq}, declared.default.Default.{Ghosts as Default}}
 use Rattle.std.proofs.Common.{suc}
 use Rattle.event_log.specs.declared.object.SeqObject.{Ghosts}

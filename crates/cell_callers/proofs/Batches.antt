@@ -6,12 +6,12 @@ use Rattle.cell_callers.specs.{declared.batching.Replies.Replies, declared.repor
 use Rattle.cell_callers.specs.declared.caller_state.CallerState.TheVariants as at
 use Rattle.cell_callers.specs.declared.whole.Whole.TheVariants as whole
 
--- what is reported where the object isn't given back yet
+-- the result where the lock isn't released yet
 pub kept_all : (said : Result KernelSteps NoRoom) (old new : Replies) (n m : ℕ) → ReportsAll DONE LOG_FULL said n old new → m ≡ kept_code n → ReportsAll DONE_HELD LOG_FULL_HELD said m old new
 kept_all (Ok steps) old new n m reported kept = (kept ∙ ap kept_code reported.0, reported.1)
 kept_all (Err why) old new n m reported kept = (kept ∙ ap kept_code reported.0, reported.1)
 
--- what was done under the hold is the batch of whoever came to that hold
+-- the batch that was done under a hold is the batch of the caller that came to that hold
 pub batch_done : (cell : KernelCell) (p : KernelState) (calls : List KCall) (hold : KernelHold) (looked : Bool) (old new : Replies × ℕ) (n : ℕ) (q : KernelState)
     → (m : ℕ) × GoesThere ghosts cell p m (got_by looked) (at.Holding hold) → ReportsHeldBatch cell hold calls old.0 n new.0 q → new.1 ≡ looks_after looked old.1 → ReportsBatchedAt cell p calls old n q new
 batch_done cell p calls hold looked old new n q there (said, true, reported, held) looks = (whole.Done said looked, reported, looks, record { steps = there.0; got = hold; there = there.1; held = held })

@@ -27,21 +27,21 @@ module _ {O P C R : Type 0} {g : Ghosts O P C R} {call_eq : Eq C} {call_default 
   pub last_home : (cell : AnyCell O P C R) (ps : List (Pass O P C R g call_eq call_default reply_eq reply_default)) (p : Pass O P C R g call_eq call_default reply_eq reply_default) → AreHome cell (ps ++ p ∷ []) → IsHome cell (length ps) p
   last_home cell ps p homes = homes (length ps) p (get_last ps p)
 
-  -- nothing was given back yet, or one pass is there of all that was
+  -- no pass was returned yet, or those that were returned are one pass
   pub none_back : (cell : AnyCell O P C R) → IsBack {g = g} {call_eq = call_eq} {call_default = call_default} {reply_eq = reply_eq} {reply_default = reply_default} cell 0 None
   none_back cell = ((λ p e. cc), (λ e. refl))
 
   pub one_back : (cell : AnyCell O P C R) (n : ℕ) (h : Pass O P C R g call_eq call_default reply_eq reply_default) → OwnsFirst cell n h → IsBack cell n (Some h)
   one_back cell n h first = ((λ p e. let same : h ≡ p = cc in subst (OwnsFirst cell n) same first), (λ e. cc))
 
-  -- the first CPU's pass is given back
+  -- the first CPU's pass is returned
   pub first_back : (cell : AnyCell O P C R) (n : ℕ) (p : Pass O P C R g call_eq call_default reply_eq reply_default) → IsHome cell n p → n ≡ 0 → OwnsFirst cell (n + 1) p
   first_back cell n p home none = record {
     of = home.of;
     owned = λ k below. let number = home.number in home.one.each k ∙ same_number k (view_of_pass p).caller.acting (omega (arith, below, number, none));
   }
 
-  -- the next CPU's pass is given back beside those that were
+  -- the next CPU's pass is returned, and joined with those before it
   pub next_back : (cell : AnyCell O P C R) (n : ℕ) (a p j : Pass O P C R g call_eq call_default reply_eq reply_default) → OwnsFirst cell n a → IsHome cell n p → IsPassOf cell j
       → ((k : ℕ) → (view_of_pass j).caller.owned k ≡ ((view_of_pass a).caller.owned k || (view_of_pass p).caller.owned k)) → OwnsFirst cell (n + 1) j
   next_back cell n a p j first home of owned = record { of = of; owned = each }
@@ -51,7 +51,7 @@ module _ {O P C R : Type 0} {g : Ghosts O P C R} {call_eq : Eq C} {call_default 
           (λ e. let number = home.number in owned k ∙ or_right ((view_of_pass a).caller.owned k) ((view_of_pass p).caller.owned k) (home.one.each k ∙ same_number k (view_of_pass p).caller.acting (omega (arith, e, number))))
           (λ ne. owned k ∙ or_left ((view_of_pass a).caller.owned k) ((view_of_pass p).caller.owned k) (first.owned k (omega (arith, below, ne))))
 
-  -- who owns the first CPUs, and all if these are all
+  -- the owner of the first CPUs owns all CPUs if there are no others
   pub owns_all : (cell : AnyCell O P C R) (n : ℕ) (p : Pass O P C R g call_eq call_default reply_eq reply_default) → OwnsFirst cell n p → ((k : ℕ) → k < (fixed_of cell).numbers → k < n) → OwnsAll (view_of_pass p).caller
   owns_all cell n p first all = record { each = λ k below. first.owned k (all k (subst (λ h. k < h.numbers) (reported_of cell p first.of) below)) }
 

@@ -12,7 +12,7 @@ use Rattle.guarded_cell.specs.{declared.cell.AnyCell.AnyCell, Kinds.IsPassOf}
 use Rattle.cell_callers.specs.{CallerStates.fixed_of, Unused.{IsUnused, Covers}}
 use Rattle.cell_callers.proofs.Homes.{reported_of, same_number}
 
--- what each of a list has, all but the last have, and the last
+-- if all items of a list have something, so have all but the last, and the last
 pub front_each : {A : Type 0} (Q : A → Type 0) (ps xs : List A) (x : A) → ps ≡ xs ++ x ∷ [] → EachAt (λ _ p. Q p) ps → EachAt (λ _ p. Q p) xs
 front_each Q ps xs x split each k y there = each k y (ap (λ l. slice_get l k) split ∙ get_front xs (x ∷ []) k y there)
 

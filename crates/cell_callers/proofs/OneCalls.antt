@@ -13,13 +13,13 @@ use Rattle.cell_callers.specs.declared.caller_state.CallerState.TheVariants as a
 use Rattle.cell_callers.specs.declared.progress.Progress.TheVariants as reported
 use Rattle.cell_callers.specs.declared.whole.Whole.TheVariants as whole
 
--- how often a caller has joined the line that stands there on its way to the object
+-- how often a caller at this stage, on its way to the lock, has joined the line
 abbrev joined : Stage → ℕ
 joined Idle = 0
 joined (Mcs Ready) = 0
 joined q = 1
 
--- what the caller has done since it was idle: it looked so often, and hasn't got the object
+-- the caller's steps since it was idle: n looks, and it hasn't acquired the lock
 record Came {O P C R : Type 0} (caller : Caller O P C R) (before : List (TraceStep (Event O P C R))) (n : ℕ) (a : StepState O P C R) : Type 0 where
   done : List StepDone
   since : Since caller before done a
@@ -28,7 +28,7 @@ record Came {O P C R : Type 0} (caller : Caller O P C R) (before : List (TraceSt
   unended : how_many ends_hold done ≡ 0
   looked : how_many is_look done ≡ n
 
--- what it has done since it has the object: none of it is a look, an arrival or an end
+-- its steps since it acquired the lock: none of them is a look, an arrival or an end
 record Held {O P C R : Type 0} (hold : HoldView O P C R) (before : List (TraceStep (Event O P C R))) (a : StepState O P C R) : Type 0 where
   done : List StepDone
   since : HeldSince hold before done a
@@ -94,7 +94,7 @@ module _ {O P C R : Type 0} (g : Ghosts O P C R) where
 
 module _ {O P C R : Type 0} (g : Ghosts O P C R) {call_eq : Eq C} {call_default : Default C} {reply_eq : Eq R} {reply_default : Default R} where
   module _ (caller : Caller O P C R) (before : List (TraceStep (Event O P C R))) where
-    -- a step that looks at nothing, one that looks in vain, and one that gets the object
+    -- a step that looks at nothing, a failed look, and a step that acquires the lock
     one_stepped : (c : AnyCell O P C R) (p : CallerState O P C R g call_eq call_default reply_eq reply_default) (b : StepState O P C R) (n : ℕ) → IsStepThere g c p reported.Stepped (state_of p) b → Came caller before n (state_of p) → Came caller before n b
     one_stepped (cells.Ticket c) (at.Idle x) b n s came = came_more g caller before n n _ _ steps.Draw _ b s.1 refl refl refl (no_more n) came
     one_stepped (cells.Ticket c) (at.Drawn x) b n s came = absurd s
@@ -182,7 +182,7 @@ module _ {O P C R : Type 0} (g : Ghosts O P C R) {call_eq : Eq C} {call_default 
     one_got (cells.Mcs c) (at.Passing x) true h n s came = absurd s
     one_got (cells.Mcs c) (at.Passing x) false h n s came = absurd s
 
-    -- so many steps that look at nothing, and then such a one
+    -- k steps that look at nothing, and then a failed look
     goes_vain : (c : AnyCell O P C R) (p : CallerState O P C R g call_eq call_default reply_eq reply_default) (k : ℕ) (q : CallerState O P C R g call_eq call_default reply_eq reply_default) (n : ℕ) → GoesThere g c p k reported.Looked q → Came caller before n (state_of p) → Came caller before (n + 1) (state_of q)
     goes_vain c p zero q n gone came = one_vain c p (state_of q) n gone came
     goes_vain c p (suc k) q n gone came = goes_vain c gone.0 k q n gone.2 (one_stepped c p (state_of gone.0) n gone.1 came)
@@ -192,7 +192,7 @@ module _ {O P C R : Type 0} (g : Ghosts O P C R) {call_eq : Eq C} {call_default 
     goes_got c p zero looked h n gone came = one_got c p looked h n gone came
     goes_got c p (suc k) looked h n gone came = goes_got c gone.0 k looked h n gone.2 (one_stepped c p (state_of gone.0) n gone.1 came)
 
-    -- so many returns that say that it waits
+    -- k returns that report that the caller waits
     looks_vain : (c : AnyCell O P C R) (p : CallerState O P C R g call_eq call_default reply_eq reply_default) (call : C) (k : ℕ) (q : CallerState O P C R g call_eq call_default reply_eq reply_default) (n : ℕ) → LooksInVain g c p call k q → Came caller before n (state_of p) → Came caller before (n + k) (state_of q)
     looks_vain c p call zero q n same came = subst (λ (z : ℕ). Came caller before z (state_of q)) (no_more n) (subst (λ z. Came caller before n (state_of z)) (sym same) came)
     looks_vain c p call (suc k) q n vain came =
@@ -248,7 +248,7 @@ module _ {O P C R : Type 0} (g : Ghosts O P C R) {call_eq : Eq C} {call_default 
     goes_back c p zero q gone h = back_left c p (state_of q) gone h
     goes_back c p (suc k) q gone h = goes_back c gone.0 k q gone.2 (back_stepped c p (state_of gone.0) gone.1 h)
 
-  -- what was done under the hold, as the law of one call wants it
+  -- the call that was done under the hold, in the form of the law of one call
   applied : (h k : Hold O P C R g call_eq call_default reply_eq reply_default) (call : C) (said : Result R NoRoom) → IsHeldApply g h call said k → IfOk said (λ v. (view_of_hold k).history ≡ with_event (view_of_hold h).history (record { cpu = (view_of_hold h).caller.acting; steps = one_step call v }) (g.answer (view_of_hold h).history.state call).0)
   applied h k call (Ok v) is = is.after
   applied h k call (Err e) is = tt
@@ -265,7 +265,7 @@ module _ {O P C R : Type 0} (g : Ghosts O P C R) {call_eq : Eq C} {call_default 
   same_run h k call (Ok v) is = is.run
   same_run h k call (Err e) is = is.run
 
-  -- an idle caller whose call looked in vain so often, and then was done, has held the object once for it
+  -- an idle caller whose call had n failed looks, and then was done, has held the lock once for it
   pub one_call : (c : AnyCell O P C R) (pass back : Pass O P C R g call_eq call_default reply_eq reply_default) (call : C) (n : ℕ) (m : CallerState O P C R g call_eq call_default reply_eq reply_default) (said : Result R NoRoom) (looked : Bool)
       → LooksInVain g c (at.Idle pass) call n m → IsCalled g c m call (whole.Done said looked) (at.Idle back) → HasCalled (view_of_pass pass).caller (run_of_pass pass) (looks_of n looked) call said (run_of_pass back)
   one_call c pass back call n m said looked vain called =

@@ -1,4 +1,4 @@
--- Where a caller stands, by its place.
+-- The state of a caller, by its place.
 use Rattle.std.specs.{declared.cmp.PartialEq.{Ghosts as Eq}, declared.default.Default.{Ghosts as Default}}
 use Rattle.std.proofs.Common.{◌≡◌, ◌∙◌, ap, subst, refl, sym, true, false, is_some, Option, Some, None, IsSome, IfSome}
 use Rattle.event_log.specs.declared.object.SeqObject.{Ghosts}
@@ -8,14 +8,14 @@ use Rattle.cell_callers.specs.{declared.caller_state.CallerState.CallerState, de
 use Rattle.cell_callers.specs.declared.caller_state.CallerState.TheVariants as at
 
 module _ {O P C R : Type 0} {g : Ghosts O P C R} {call_eq : Eq C} {call_default : Default C} {reply_eq : Eq R} {reply_default : Default R} where
-  -- who stands at such a place is of its cell, and owns one CPU
+  -- the caller in a place of a cell is of that cell, and owns one CPU
   pub at_place : (cell : AnyCell O P C R) (place : CallerPlace O P C R g call_eq call_default reply_eq reply_default) (s : CallerState O P C R g call_eq call_default reply_eq reply_default)
       → IsPlaceOf cell place → place_of place ≡ Some s → IsOf cell s × IsOne (state_of s).caller
   at_place cell place s there is =
       let same : there.0 ≡ s = cc (there.1, is) in
       (subst (λ z. IsOf cell z) same there.2, subst (λ z. IsOne (state_of z).caller) same there.3)
 
-  -- a pass, or what any other caller has, was put where nothing was
+  -- a pass, or the state of a caller that isn't idle, was put in an empty place
   pub stands_idle : (pass : Pass O P C R g call_eq call_default reply_eq reply_default) (line : Option (CallerState O P C R g call_eq call_default reply_eq reply_default))
       → line ≡ None → stands_at (Some pass) line ≡ Some (at.Idle pass)
   stands_idle pass line none = ap (λ l. stands_at (Some pass) l) none
@@ -24,11 +24,11 @@ module _ {O P C R : Type 0} {g : Ghosts O P C R} {call_eq : Eq C} {call_default 
       → pass ≡ None → line ≡ Some s → stands_at {g = g} {call_eq = call_eq} {call_default = call_default} {reply_eq = reply_eq} {reply_default = reply_default} None (Some s) ≡ Some s → stands_at pass line ≡ Some s
   stands_in_line pass line s none some there = ap (λ p. stands_at p line) none ∙ (ap (λ l. stands_at {g = g} {call_eq = call_eq} {call_default = call_default} {reply_eq = reply_eq} {reply_default = reply_default} None l) some ∙ there)
 
-  -- what holds of where the caller stands
+  -- a fact about the caller's state holds of its place
   pub placed : (place : CallerPlace O P C R g call_eq call_default reply_eq reply_default) (s : CallerState O P C R g call_eq call_default reply_eq reply_default) (Q : CallerState O P C R g call_eq call_default reply_eq reply_default → Type 0) → place_of place ≡ Some s → Q s → IfSome (place_of place) Q
   placed place s Q is holds = subst (λ o. IfSome o Q) (sym is) holds
 
-  -- an idle caller stands there whose pass is there, and any other where none is
+  -- a place with a pass has an idle caller, and a place without one has a caller that isn't idle
   pub idle_there : (pass : Option (Pass O P C R g call_eq call_default reply_eq reply_default)) (p : Pass O P C R g call_eq call_default reply_eq reply_default) (line : Option (CallerState O P C R g call_eq call_default reply_eq reply_default)) → pass ≡ Some p → IsSome (stands_at pass line) → stands_at pass line ≡ Some (at.Idle p)
   idle_there pass p None e some = ap (λ z. stands_at z None) e
   idle_there pass p (Some s) e some = let none : false ≡ true = subst (λ z. is_some (stands_at z (Some s)) ≡ true) e some in absurd (cc)

@@ -1,4 +1,4 @@
--- What a handle has may go to another thread: an open cell, a caller wherever it stands, and the log of a cell that has ended.
+-- The content of a handle may go to another thread: an open cell, a caller in any state, and the log of a closed cell.
 use denote.{RattleType.RattleType, Param.Send.{IsSend, IsSync, sendable, recorded_send, enum_send, struct_send}, Enum.Declared.shape, Struct.Declared.{shape as fields}}
 use Rattle.std.proofs.Crossing.{crosses, Arc-send, Vec-send}
 use Rattle.std.specs.{declared.cmp.PartialEq.{Ghosts as Compares}, declared.default.Default.{Ghosts as Defaults}}
@@ -108,11 +108,11 @@ open_cell_send : IsSend (OpenCell.the_field Object.the_row Params.the_row Call.t
 open_cell_send = struct_send (fields (OpenCell.the_type Object.the_row Params.the_row Call.the_row Reply.the_row kernel call_compares call_defaults reply_compares reply_defaults (copied Call.the_row) call_eq (copied Reply.the_row) reply_eq))
     (Arc-send cell cell_send cell_sync, (Vec-send pass kernel_pass_send, (search (sendable, kernel_pass_send) depth 40, (search sendable, (search sendable, tt)))))
 
--- what a handle has
+-- the content of a handle
 content_send : IsSend HandleContent.the_row
 content_send = recorded_send _ _ _ HandleContent.the_type.to_one (enum_send (shape HandleContent.the_type)
     (tt, ((open_cell_send, tt), ((caller_send, tt), ((logged.the_send Object.the_row Params.the_row Call.the_row Reply.the_row kernel call_compares call_defaults reply_compares reply_defaults object_send params_send call_send reply_send, tt), tt)))))
 
--- that is kept from being dropped
+-- the same, kept from being dropped
 pub row_send : IsSend row
 row_send = manual.the_send HandleContent.the_row content_send

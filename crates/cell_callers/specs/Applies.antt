@@ -19,13 +19,12 @@ module _ {O P C R : Type 0} (g : Ghosts O P C R) {call_eq : Eq C} {call_default 
     pub same : view_of_hold k ≡ view_of_hold h
     pub run : run_of_hold k ≡ run_of_hold h
 
-  -- what was answered under a hold
+  -- the answer under a hold
   abbrev pub IsHeldApply : Hold O P C R g call_eq call_default reply_eq reply_default → C → Result R NoRoom → Hold O P C R g call_eq call_default reply_eq reply_default → Type 0
   IsHeldApply h call (Ok reply) k = HasApplied h call reply k
   IsHeldApply h call (Err full) k = WasFull h k
 
-  -- the calls were done as one event of the CPU, the last of the log, up to and with the first that was refused, and were answered as
-  -- the object answers there
+  -- one event of the CPU, the last of the log, has the calls up to and with the first refused, answered as the object answers there
   pub record HasAppliedAll (h : Hold O P C R g call_eq call_default reply_eq reply_default) (calls : List C) (done : Steps O P C R) (k : Hold O P C R g call_eq call_default reply_eq reply_default) : Type 0 where
     pub caller : (view_of_hold k).caller ≡ (view_of_hold h).caller
     pub steps : done.list.items ≡ answers g (view_of_hold h).history.state calls
@@ -36,7 +35,7 @@ module _ {O P C R : Type 0} (g : Ghosts O P C R) {call_eq : Eq C} {call_default 
   IsHeldBatch h calls (Ok done) k = HasAppliedAll h calls done k
   IsHeldBatch h calls (Err full) k = WasFull h k
 
-  -- what was answered; a caller that hasn't the object is refused, and nothing is done
+  -- the answer; a caller that doesn't hold the lock is refused, and nothing is done
   abbrev pub IsApplied : CallerState O P C R g call_eq call_default reply_eq reply_default → C → Option (Result R NoRoom) → CallerState O P C R g call_eq call_default reply_eq reply_default → Type 0
   IsApplied (at.Holding h) call (Some said) (at.Holding k) = IsHeldApply h call said k
   IsApplied before call None after = (is_holding before ≡ false) × (after ≡ before)

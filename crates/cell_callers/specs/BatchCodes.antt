@@ -9,7 +9,7 @@ abbrev pub with_call : Option KCall → Option (List KCall) → Option (List KCa
 with_call (Some c) (Some cs) = Some (c ∷ cs)
 with_call c cs = None
 
--- the calls of these numbers, if each is there
+-- the calls of these numbers, if each exists
 abbrev pub calls_of : List Asked → Option (List KCall)
 calls_of [] = Some []
 calls_of (a ∷ more) = with_call (called_of a) (calls_of more)
@@ -22,7 +22,7 @@ pub record AreRepliesTo (steps : List KernelStep) (replies : Replies) : Type 0 w
   pub count : replies.count ≡ length steps
   pub list : take (length steps) replies.list ≡ map (λ s. reply_code s.reply) steps
 
--- the number that is reported of a batch, with the numbers for done and for full, and the replies, which are written where it was done
+-- the result of a batch, given the numbers for done and for full, and the replies, which are written if it was done
 abbrev pub ReportsAll : ℕ → ℕ → Result KernelSteps NoRoom → ℕ → Replies → Replies → Type 0
 ReportsAll done full (Ok steps) n old new = (n ≡ done) × AreRepliesTo steps.list.items new
 ReportsAll done full (Err why) n old new = (n ≡ full) × (new ≡ old)

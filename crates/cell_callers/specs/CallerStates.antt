@@ -1,4 +1,4 @@
--- Where a caller stands, and that it is of a cell.
+-- The state of a caller, and that it is of a cell.
 use Rattle.std.specs.{declared.cmp.PartialEq.{Ghosts as Eq}, declared.default.Default.{Ghosts as Default}, Prelude.{◌≡◌, ℕ, ◌==◌, Bool, true, false}}
 use Rattle.event_log.specs.declared.object.SeqObject.{Ghosts}
 use Rattle.word_rule.specs.{Cell.{Cell, Caller}, CallerState.{CallerState as StepState}, Passes.{state_of_pass, state_of_hold}}
@@ -21,7 +21,7 @@ module _ {O P C R : Type 0} where
   pub record IsOne (caller : Caller O P C R) : Type 0 where
     pub each : (k : ℕ) → caller.owned k ≡ (k == caller.acting)
 
-  -- the cell is behind such a lock, and Q holds of it there
+  -- the cell has a lock of this kind, and Q holds of it
   abbrev pub IfTicket : AnyCell O P C R → (TicketCell O P C R → Type 0) → Type 0
   IfTicket (cells.Ticket c) Q = Q c
   IfTicket (cells.Mcs c) Q = ⊥
@@ -30,9 +30,9 @@ module _ {O P C R : Type 0} where
   IfMcs (cells.Ticket c) Q = ⊥
   IfMcs (cells.Mcs c) Q = Q c
 
--- The types of callers are over all that an object is bound by.
+-- The types of callers have as parameters all that an object's type is bound by.
 module _ {O P C R : Type 0} {g : Ghosts O P C R} {call_eq : Eq C} {call_default : Default C} {reply_eq : Eq R} {reply_default : Default R} where
-  -- a caller at that state is of the cell, and so of its lock
+  -- a caller in that state is of the cell, and so of its lock
   abbrev pub IsOf : AnyCell O P C R → CallerState O P C R g call_eq call_default reply_eq reply_default → Type 0
   IsOf cell (at.Idle p) = IsPassOf cell p
   IsOf cell (at.Drawn d) = IfTicket cell (λ c. ticket.IsDrawnOf c d)
@@ -45,7 +45,7 @@ module _ {O P C R : Type 0} {g : Ghosts O P C R} {call_eq : Eq C} {call_default 
   IsOf cell (at.Leaving l) = IfMcs cell (λ c. mcs.IsLeavingOf c l)
   IsOf cell (at.Passing p) = IfMcs cell (λ c. mcs.IsPassingOf c p)
 
-  -- the caller there, as each step of a lock speaks of it
+  -- the caller there, as the steps of a lock describe it
   abbrev pub state_of : CallerState O P C R g call_eq call_default reply_eq reply_default → StepState O P C R
   state_of (at.Idle p) = state_of_pass p
   state_of (at.Drawn d) = ticket.state_of_drawn d
@@ -58,7 +58,7 @@ module _ {O P C R : Type 0} {g : Ghosts O P C R} {call_eq : Eq C} {call_default 
   state_of (at.Leaving l) = mcs.state_of_leaving l
   state_of (at.Passing p) = mcs.state_of_passing p
 
-  -- it isn't in line, or is on the way to the object
+  -- it is idle, or on its way to the lock
   abbrev pub has_none : CallerState O P C R g call_eq call_default reply_eq reply_default → Bool
   has_none (at.Idle p) = true
   has_none (at.Drawn d) = true
@@ -71,12 +71,12 @@ module _ {O P C R : Type 0} {g : Ghosts O P C R} {call_eq : Eq C} {call_default 
   has_none (at.Leaving l) = false
   has_none (at.Passing p) = false
 
-  -- it isn't in line
+  -- it is idle: it isn't in line and doesn't hold the lock
   abbrev pub is_idle : CallerState O P C R g call_eq call_default reply_eq reply_default → Bool
   is_idle (at.Idle p) = true
   is_idle p = false
 
-  -- it has the object, and hasn't begun to give it back
+  -- it holds the lock, and hasn't begun to release it
   abbrev pub is_holding : CallerState O P C R g call_eq call_default reply_eq reply_default → Bool
   is_holding (at.Holding h) = true
   is_holding p = false

@@ -1,4 +1,4 @@
--- The numbers by which callers in C learn what became of a call.
+-- The results of calls, as the numbers that C gets.
 use Rattle.std.specs.Prelude.{ℕ, ◌+◌, ◌%◌, ◌^◌, ◌==◌, Bool, true, false, Option, Some, None, Result, Ok, Err, if◌then◌else◌}
 use Rattle.event_log.specs.declared.logged.NoRoom.{NoRoom}
 use Rattle.kernel_object.specs.declared.call.KReply.{KReply}
@@ -20,7 +20,7 @@ try_code (Some true) = ACQUIRED_BY_LOOK
 try_code (Some false) = BUSY
 try_code None = REFUSED
 
--- of what was answered, with the numbers for done and for full, and the answer, which is written where the call was done
+-- the result of an answer, given the numbers for done and for full, and the reply, which is written if the call was done
 abbrev pub answer_code : ℕ → ℕ → Answered → Result KReply NoRoom → ℕ × Answered
 answer_code done full old (Ok reply) = (done, reply_code reply)
 answer_code done full old (Err why) = (full, old)
@@ -29,7 +29,7 @@ abbrev pub apply_code : Answered → Option (Result KReply NoRoom) → ℕ × An
 apply_code old (Some said) = answer_code DONE LOG_FULL old said
 apply_code old None = (REFUSED, old)
 
--- what is reported of a call whose object isn't given back yet, for what is reported of it without that
+-- the result of a call whose lock isn't released yet, from its result otherwise
 abbrev pub kept_code : ℕ → ℕ
 kept_code reported = if reported == DONE then DONE_HELD else LOG_FULL_HELD
 
@@ -45,7 +45,7 @@ try_call_code old (tried.Kept said) = answer_code DONE_HELD LOG_FULL_HELD old sa
 try_call_code old tried.Busy = (BUSY, old)
 try_call_code old tried.Refused = (REFUSED, old)
 
--- the looks, counted on by one where there was one; 2^64 is 0 again
+-- the looks, one more if there was a look; after 2^64 - 1 comes 0
 abbrev pub looks_after : Bool → ℕ → ℕ
 looks_after true n = (n + 1) % 2 ^ 64
 looks_after false n = n
@@ -56,7 +56,7 @@ has_looked (whole.Kept said looked) = looked
 has_looked whole.Waits = true
 has_looked whole.Refused = false
 
--- of an opening
+-- the result of an opening
 abbrev pub opening_code : Result (Unit {0}) NotOpened → ℕ
 opening_code (Ok u) = DONE
 opening_code (Err NotEmpty) = REFUSED

@@ -1,4 +1,4 @@
--- What is done with a cell that C has opened: passes are given out and given back, and it ends.
+-- The life of a cell that C has opened: passes are given out and returned, and it is closed.
 use Rattle.std.specs.{declared.cmp.PartialEq.{Ghosts as Eq}, declared.default.Default.{Ghosts as Default}, Prelude.{◌≡◌, ◌==◌, ◌&&◌, nat_lt, ◌<◌, ◌≤◌, ◌+◌, Bool, false, [], ◌∷◌, ◌++◌, Option, Some, None, Result, Ok, Err, vec_len}}
 use Rattle.std_alloc.specs.Arc.{arc_value}
 use Rattle.event_log.specs.{declared.object.SeqObject.Ghosts, History.History}
@@ -30,7 +30,7 @@ module _ {O P C R : Type 0} {g : Ghosts O P C R} {call_eq : Eq C} {call_default 
   IsNewCaller before (Err NoneLeft) after = IsSame before after × (vec_len before.passes ≡ 0)
   IsNewCaller before (Err NoShare) after = IsSame before after × (0 < vec_len before.passes)
 
-  -- the caller is idle, and its CPU is the least that wasn't given back yet
+  -- the caller is idle, and its CPU is the lowest that wasn't returned yet
   abbrev pub is_next : OpenCell O P C R g call_eq call_default reply_eq reply_default → CallerState O P C R g call_eq call_default reply_eq reply_default → Bool
   is_next o (at.Idle p) = nat_lt o.back o.cpus && ((view_of_pass p).caller.acting == o.back)
   is_next o state = false
@@ -45,13 +45,12 @@ module _ {O P C R : Type 0} {g : Ghosts O P C R} {call_eq : Eq C} {call_default 
     pub home : TakesIn before.home pass after.home
     pub back : after.back ≡ before.back + 1
 
-  -- a caller was given back; or it isn't the next, is there as it was, and nothing was done
+  -- a caller was returned; or it isn't the next, is unchanged, and nothing was done
   abbrev pub IsReturned : OpenCell O P C R g call_eq call_default reply_eq reply_default → Caller O P C R g call_eq call_default reply_eq reply_default → Option (Caller O P C R g call_eq call_default reply_eq reply_default) → OpenCell O P C R g call_eq call_default reply_eq reply_default → Type 0
   IsReturned before caller None after = HasReturned before caller after
   IsReturned before caller (Some left) after = IsSame before after × (arc_value left.cell ≡ arc_value caller.cell) × Between caller.place left.place (λ p q. (is_next before p ≡ false) × (q ≡ p))
 
-  -- all callers were given back, the pass of all CPUs has seen the log that is left, and each that has arrived in line has ended
-  -- its hold
+  -- all callers were returned, the pass of all CPUs has seen the log that is left, and each arrival in line has ended its hold
   pub record HasClosed (before : OpenCell O P C R g call_eq call_default reply_eq reply_default) (left : History O P C R) : Type 0 where
     pub pass : Pass O P C R g call_eq call_default reply_eq reply_default
     pub home : before.home ≡ Some pass
@@ -59,12 +58,12 @@ module _ {O P C R : Type 0} {g : Ghosts O P C R} {call_eq : Eq C} {call_default 
     pub log : left ≡ stored g (view_of_pass pass).caller.cell (view_of_pass pass).seen
     pub run : endings_in (run_of_pass pass) ≡ arrivals_in (run_of_pass pass)
 
-  -- why a cell goes on: a caller wasn't given back, or all were and another shares the cell
+  -- why a cell stays open: a caller wasn't returned, or all were and another shares the cell
   abbrev pub IsWhyOpen : OpenCell O P C R g call_eq call_default reply_eq reply_default → NotClosed → Type 0
   IsWhyOpen o NotAllBack = o.back < o.cpus
   IsWhyOpen o Shared = o.cpus ≤ o.back
 
-  -- the cell has ended, or it is there as it was
+  -- the cell was closed, or is unchanged
   abbrev pub IsClosed : OpenCell O P C R g call_eq call_default reply_eq reply_default → Result (History O P C R) (OpenCell O P C R g call_eq call_default reply_eq reply_default × NotClosed) → Type 0
   IsClosed before (Ok left) = HasClosed before left
   IsClosed before (Err left) = IsSame before left.0 × IsWhyOpen before left.1

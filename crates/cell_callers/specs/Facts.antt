@@ -1,4 +1,4 @@
--- That a caller is of a cell is so in one way at most.
+-- A caller is of a cell in at most one way.
 use Rattle.std.specs.{declared.cmp.PartialEq.{Ghosts as Eq}, declared.default.Default.{Ghosts as Default}}
 use Rattle.event_log.specs.declared.object.SeqObject.{Ghosts}
 use Rattle.event_log.proofs.Props.{legal_props}

@@ -1,4 +1,4 @@
--- What is done with what a handle has: a caller's step, or nothing.
+-- Effects on the content of a handle: a caller's step, or nothing.
 use Rattle.std.specs.Prelude.{◌≡◌, Bool, List, Option, None, Result}
 use Rattle.std_alloc.specs.Arc.{arc_value}
 use Rattle.event_log.specs.{declared.event.Steps.Steps, declared.logged.NoRoom.NoRoom}
@@ -32,12 +32,12 @@ KernelBehind = Behind KernelObject KParams KCall KReply ghosts call_compares cal
 abbrev pub KernelPlace : Type 0
 KernelPlace = CallerPlace KernelObject KParams KCall KReply ghosts call_compares call_defaults reply_compares reply_defaults
 
--- a caller of the same cell has done that, and reports r; what is no caller reports that nothing was done
+-- a caller of the same cell has done that, and reports r; any other content is unchanged, and r says that nothing was done
 abbrev pub IsDoneIn : {R : Type 0} → (AnyCell KernelObject KParams KCall KReply → KernelState → R → KernelState → Type 0) → R → HandleContent → R → HandleContent → Type 0
 IsDoneIn Q none (Caller c) r (Caller d) = (arc_value d.cell ≡ arc_value c.cell) × Between c.place d.place (λ p q. Q (arc_value c.cell) p r q)
 IsDoneIn Q none before r after = (r ≡ none) × (after ≡ before)
 
--- a step towards the object, a step to give it back, a try, and a call under a hold
+-- a step towards the lock, a step to release it, a try, and a call under a hold
 abbrev pub IsAcquireStepIn : HandleContent → Option Progress → HandleContent → Type 0
 IsAcquireStepIn = IsDoneIn (IsAcquireStep ghosts) None
 
@@ -50,7 +50,7 @@ IsTryIn = IsDoneIn (λ cell. IsTried ghosts) None
 abbrev pub IsApplyIn : KCall → HandleContent → Option (Result KReply NoRoom) → HandleContent → Type 0
 IsApplyIn call = IsDoneIn (λ cell before. IsApplied ghosts before call) None
 
--- a whole call, a batch, and a call that is a try
+-- a whole call, a batch, and a call by a try
 abbrev pub IsCallIn : KCall → HandleContent → Whole (Result KReply NoRoom) → HandleContent → Type 0
 IsCallIn call = IsDoneIn (λ cell before. IsCalled ghosts cell before call) whole.Refused
 

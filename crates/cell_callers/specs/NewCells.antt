@@ -8,8 +8,7 @@ use Rattle.guarded_cell.specs.Kinds.{kind_of}
 use Rattle.cell_callers.specs.declared.open_cell.OpenCell.{OpenCell}
 
 module _ {O P C R : Type 0} {g : Ghosts O P C R} {call_eq : Eq C} {call_default : Default C} {reply_eq : Eq R} {reply_default : Default R} where
-  -- a new cell of n CPUs behind that lock, around an object with that log: it has a pass for each CPU, which has seen an empty run,
-  -- and none was given back
+  -- a new cell of n CPUs behind that lock, around an object with that log: one pass per CPU, each with an empty run, and none returned
   pub record IsOpenedOn (lock : LockKind) (n : ℕ) (h : History O P C R) (c : OpenCell O P C R g call_eq call_default reply_eq reply_default) : Type 0 where
     pub kind : kind_of (arc_value c.cell) ≡ lock
     pub count : vec_len c.passes ≡ n

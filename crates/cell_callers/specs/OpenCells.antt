@@ -1,4 +1,4 @@
--- A cell that C has opened: its passes, before they are given out and once they are given back.
+-- A cell that C has opened: its passes, before they are given out and once they are returned.
 use Rattle.std.specs.{declared.cmp.PartialEq.{Ghosts as Eq}, declared.default.Default.{Ghosts as Default}, Prelude.{◌≡◌, ℕ, ◌<◌, true, List, [], Option, Some, None}}
 use Rattle.event_log.specs.declared.object.SeqObject.{Ghosts}
 use Rattle.word_rule.specs.{declared.pass.Pass.Pass, Cell.{EachAt, Grows}, LockRuns.Extends, Passes.{view_of_pass, run_of_pass}}
@@ -7,7 +7,7 @@ use Rattle.cell_callers.specs.CallerStates.{IsOf, IsOne}
 use Rattle.cell_callers.specs.declared.caller_state.CallerState.TheVariants as at
 
 module _ {O P C R : Type 0} {g : Ghosts O P C R} {call_eq : Eq C} {call_default : Default C} {reply_eq : Eq R} {reply_default : Default R} where
-  -- a pass of the cell that owns that CPU alone
+  -- a pass of the cell that owns only that CPU
   pub record IsHome (cell : AnyCell O P C R) (cpu : ℕ) (p : Pass O P C R g call_eq call_default reply_eq reply_default) : Type 0 where
     pub of : IsOf cell (at.Idle p)
     pub number : (view_of_pass p).caller.acting ≡ cpu
@@ -22,7 +22,7 @@ module _ {O P C R : Type 0} {g : Ghosts O P C R} {call_eq : Eq C} {call_default 
     pub of : IsOf cell (at.Idle p)
     pub owned : (k : ℕ) → k < n → (view_of_pass p).caller.owned k ≡ true
 
-  -- what was given back is one pass, of the first n CPUs, or nothing yet
+  -- the passes that were returned are one pass, of the first n CPUs, or none was returned yet
   abbrev pub IsBack : AnyCell O P C R → ℕ → Option (Pass O P C R g call_eq call_default reply_eq reply_default) → Type 0
   IsBack cell n home = ((p : Pass O P C R g call_eq call_default reply_eq reply_default) → home ≡ Some p → OwnsFirst cell n p) × (home ≡ None → n ≡ 0)
 
@@ -31,7 +31,7 @@ module _ {O P C R : Type 0} {g : Ghosts O P C R} {call_eq : Eq C} {call_default 
     pub grows : Grows (view_of_pass a).caller.owned (view_of_pass a).seen (view_of_pass b).seen
     pub run : Extends (view_of_pass a).caller.owned (run_of_pass a) [] (run_of_pass b)
 
-  -- a pass was given back beside those that were: one pass has taken in both
+  -- a pass was returned after those before it: one pass has taken in both
   abbrev pub TakesIn : Option (Pass O P C R g call_eq call_default reply_eq reply_default) → Pass O P C R g call_eq call_default reply_eq reply_default → Option (Pass O P C R g call_eq call_default reply_eq reply_default) → Type 0
   TakesIn None p (Some b) = b ≡ p
   TakesIn (Some a) p (Some b) = GoesInto a b × GoesInto p b

@@ -1,4 +1,4 @@
--- A cell is opened on the object that another has ended with, and its log goes on.
+-- A cell is opened on the object that a closed one has left, and its log continues.
 use Rattle.std.specs.Prelude.{◌≡◌, ℕ, ◌^◌, ◌-◌, Bool, true, false, Option, Some, Result, Ok, Err}
 use Rattle.event_log.specs.History.{History}
 use Rattle.sound_run.specs.declared.lock_kind.LockKind.{LockKind}
@@ -13,8 +13,7 @@ abbrev pub fit : Option LockKind → Option ℕ → Bool
 fit (Some lock) (Some n) = true
 fit lock n = false
 
--- what had ended has a new cell with its log; or all is as it was, since no cell had ended, a number didn't fit, or there was no
--- memory
+-- a closed cell was reopened with its log; or nothing has changed: no cell was closed, a number didn't fit, or there was no memory
 abbrev pub IsReopenedAs : HandleContent → Option LockKind → Option ℕ → Result (Unit {0}) NotOpened → HandleContent → Type 0
 IsReopenedAs (Ended h) (Some lock) (Some n) (Ok u) (Cell c) = IsOpenedOn lock n h c
 IsReopenedAs before lock n (Ok u) after = ⊥
@@ -26,11 +25,11 @@ IsReopenedAs before lock n (Err OutOfMemory) after = (has_ended before ≡ true)
 abbrev pub IsReopenedBy : HandleContent → ℕ → ℕ → Result (Unit {0}) NotOpened → HandleContent → Type 0
 IsReopenedBy before lock n reported after = IsReopenedAs before (lock_numbered lock) (cpus_numbered n) reported after
 
--- a log goes on with the greatest limit, and isn't kept in memory any more
+-- the log continues with the highest limit, and isn't kept in memory any more
 abbrev pub without_log : {O P C R : Type 0} → History O P C R → History O P C R
 without_log h = record { params = h.params; limit = 2 ^ 64 - 1; log = h.log; state = h.state }
 
--- the log of a cell that has ended isn't kept any more, or all is as it was
+-- the log of a closed cell isn't kept any more, or nothing has changed
 abbrev pub IsForgotten : HandleContent → Bool → HandleContent → Type 0
 IsForgotten (Ended h) true (Ended k) = k ≡ without_log h
 IsForgotten before reported after = (has_ended before ≡ false) × (reported ≡ false) × (after ≡ before)

@@ -6,18 +6,18 @@ use Rattle.cell_callers.specs.{declared.caller_state.CallerState.CallerState, Ca
 use Rattle.cell_callers.specs.declared.caller_state.CallerState.TheVariants as at
 
 module _ {O P C R : Type 0} (g : Ghosts O P C R) {call_eq : Eq C} {call_default : Default C} {reply_eq : Eq R} {reply_default : Default R} where
-  -- the object came, by at most one look, with a log that goes on from all that the caller had seen
+  -- the lock was acquired by at most one look, with a log that extends all that the caller had seen
   pub record HasTried (p : Pass O P C R g call_eq call_default reply_eq reply_default) (h : Hold O P C R g call_eq call_default reply_eq reply_default) : Type 0 where
     pub caller : (view_of_hold h).caller ≡ (view_of_pass p).caller
     pub grows : Grows (view_of_pass p).caller.owned (view_of_pass p).seen (view_of_hold h).history.log
     pub run : (looks : ℕ) × (looks ≤ 1) × HasAcquired (view_of_pass p).caller (run_of_pass p) looks (view_of_hold h).history.log (run_of_hold h)
 
-  -- another had it or was in line, and nothing was done
+  -- another caller held the lock or was in line, and nothing was done
   pub record WasBusy (p q : Pass O P C R g call_eq call_default reply_eq reply_default) : Type 0 where
     pub busy : IsBusy (view_of_pass p) (view_of_pass q)
     pub run : Extends (view_of_pass p).caller.owned (run_of_pass p) [] (run_of_pass q)
 
-  -- whether a try got the object; a caller that isn't idle is refused, and nothing is done
+  -- whether a try acquired the lock; a caller that isn't idle is refused, and nothing is done
   abbrev pub IsTried : CallerState O P C R g call_eq call_default reply_eq reply_default → Option Bool → CallerState O P C R g call_eq call_default reply_eq reply_default → Type 0
   IsTried (at.Idle p) (Some true) (at.Holding h) = HasTried p h
   IsTried (at.Idle p) (Some false) (at.Idle q) = WasBusy p q

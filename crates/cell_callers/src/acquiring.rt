@@ -1,4 +1,4 @@
-//! The steps towards the object.
+//! The steps towards the lock.
 
 ghost use Rattle.std.specs.Prelude.{◌≡◌};
 ghost use Rattle.cell_callers.specs.{CallerStates.{IsOf, state_of}, Steps.IsAcquireStep};
@@ -63,7 +63,7 @@ fn acquire_step_mcs<O: SeqObject>(
     }
 }
 
-/// The caller's next step towards the object. One that isn't on the way there does nothing.
+/// Performs the caller's next step towards the lock. A caller that already holds the lock does nothing.
 pub fn acquire_step<O: SeqObject>(
     cell: &AnyCell<O>,
     state: CallerState<O>,

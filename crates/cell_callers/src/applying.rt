@@ -1,4 +1,4 @@
-//! A call by a caller that has the object.
+//! A call by a caller that holds the lock.
 
 ghost use Rattle.std.specs.Prelude.{◌≡◌};
 ghost use Rattle.cell_callers.specs.{CallerStates.{IsOf, state_of}, Applies.IsApplied};
@@ -8,7 +8,7 @@ use crate::whole::shared_apply_held;
 use event_log::{NoRoom, SeqObject};
 use guarded_cell::AnyCell;
 
-/// Does the call as one event, unless the log is full. A caller that hasn't the object does nothing.
+/// Does the call as one event, unless the log is full. A caller that doesn't hold the lock does nothing.
 pub fn apply<O: SeqObject>(
     cell: &AnyCell<O>,
     state: CallerState<O>,

@@ -1,4 +1,4 @@
-//! On the way to the object, as far as a caller comes without waiting.
+//! The way to the lock, as far as a caller comes without waiting.
 
 ghost use Rattle.std.specs.Prelude.{◌≡◌, false, IfOk, IfErr};
 ghost use Rattle.guarded_cell.specs.declared.cell.AnyCell.TheVariants.{Ticket, Mcs};
@@ -14,11 +14,11 @@ use mcs_lock::{Behind, Entered, McsCell, Waiting};
 use ticket_lock::{Drawn, TicketCell};
 use word_rule::Hold;
 
-/// How far a caller came towards the object. It can't be dropped.
+/// How far a caller came towards the lock. It can't be dropped.
 pub enum Arrival<O: SeqObject> {
-    /// It has the object, by a look or without one.
+    /// It holds the lock, by a look or without one.
     Got(Hold<O>, bool),
-    /// It is in line, and has looked in vain.
+    /// It is in line, after a failed look.
     Waits(CallerState<O>),
 }
 
@@ -66,7 +66,7 @@ fn look_mcs<O: SeqObject>(cell: &McsCell<O>, waiting: Waiting<O>) -> Arrival<O>
     }
 }
 
-// Behind another: it arms itself, links itself, and looks.
+// A caller with another before it in the queue arms itself, links itself, and looks.
 #[inline]
 pub fn line_up<O: SeqObject>(cell: &McsCell<O>, behind: Behind<O>) -> Arrival<O>
     requires { IsBehindOf cell.now behind }
@@ -98,7 +98,7 @@ fn arrive_mcs<O: SeqObject>(
     }
 }
 
-/// An idle caller, or one at a look, goes on towards the object, by one look at most. Any other does nothing.
+/// An idle caller, or one at a look, continues towards the lock, by one look at most. Any other does nothing.
 #[inline]
 pub fn arrive<O: SeqObject>(
     cell: &AnyCell<O>,

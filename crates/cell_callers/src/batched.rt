@@ -1,5 +1,5 @@
 //! A batch of calls, as far as it comes without waiting. Its steps are long, so their replies are written where the calls are done,
-//! and what goes back is the number that is reported.
+//! and only the result is returned.
 
 ghost use Rattle.std.specs.Prelude.{◌≡◌, ◌<◌, ◌≤◌, length};
 ghost use Rattle.event_log.specs.declared.event.TheConstants.{MOST_CALLS};
@@ -30,7 +30,7 @@ fn apply_all_held(hold: &mut Hold<KernelObject>, calls: &[KCall], replies: &mut 
     steps_code(hold.apply(calls), DONE, LOG_FULL, replies)
 }
 
-/// A batch under the hold, and back.
+/// Does a batch under the hold, and releases the lock.
 fn batch_held(
     cell: &AnyCell<KernelObject>,
     mut hold: Hold<KernelObject>,
@@ -51,8 +51,8 @@ fn batch_held(
     }
 }
 
-/// A batch of 1 to 8 calls, which are one event, as far as it comes without waiting, and what is reported of it. The replies are
-/// written where it was done, and the look is counted.
+/// Does a batch of 1 to 8 calls as one event, as far as this needs no waiting, and returns its result. The replies are written if
+/// it was done, and the look is counted.
 #[inline(never)]
 fn batch(
     cell: &AnyCell<KernelObject>,
@@ -81,7 +81,7 @@ fn batch(
     }
 }
 
-/// The same of a caller that lies in its place.
+/// The same for a caller in its place.
 pub fn batch_in_place(
     caller: &mut Caller<KernelObject>,
     calls: &[KCall],

@@ -9,7 +9,7 @@ use arrayvec::ArrayVec;
 use event_log::{MOST_CALLS, Step};
 use kernel_object::{KCall, KernelObject};
 
-/// Up to 8 calls, as many as the count says. The others aren't looked at.
+/// Up to 8 calls: the first `count` of the array. The others are ignored.
 #[derive(Clone, Copy, Debug, PartialEq, Eq, Drop)]
 #[repr(C)]
 pub struct Batch {
@@ -17,7 +17,7 @@ pub struct Batch {
     pub calls: [Asked; MOST_CALLS],
 }
 
-/// Up to 8 replies, as many as the count says.
+/// Up to 8 replies: the first `count` of the array.
 #[derive(Clone, Copy, Debug, PartialEq, Eq, Drop)]
 #[repr(C)]
 pub struct Replies {
@@ -25,7 +25,7 @@ pub struct Replies {
     pub list: [Answered; MOST_CALLS],
 }
 
-/// Writes the calls of these numbers, if each is there: whether it is.
+/// Writes the calls of these numbers, if each exists. Returns whether each does.
 #[inline(never)]
 pub fn write_calls(batch: &Batch, calls: &mut ArrayVec<KCall, MOST_CALLS>) -> bool
     requires { batch.now.count ≤ MOST_CALLS }

@@ -1,4 +1,4 @@
-//! What one call, over all its returns, adds to the run of its lock, on a function without effect.
+//! The steps that one call, over all its returns, adds to the run of its lock, on a function without effect.
 
 ghost use Rattle.std.specs.Prelude.{ℕ, Bool, Result};
 ghost use Rattle.event_log.specs.declared.logged.NoRoom.{NoRoom};
@@ -12,8 +12,9 @@ use event_log::SeqObject;
 use guarded_cell::AnyCell;
 use word_rule::Pass;
 
-/// An idle caller calls, looks in vain so often, each time by a return, and then the call is done and the object given back. So it
-/// has held the object once, for that call, with a look for each of these returns, and has done nothing else.
+/// An idle caller calls: n returns report a failed look each, and then the call is done and the lock released. So the caller has held
+/// the lock once, for that call, with a look for each of these returns, and one more if it acquired the lock by a look. It has done
+/// nothing else.
 pub fn one_call_is_a_hold<O: SeqObject>(
     cell: &AnyCell<O>,
     pass: &Pass<O>,

@@ -9,7 +9,7 @@ use page_pool::PoolCall;
 use shared_queue::QueueCall;
 use wake_list::SchedCall;
 
-/// A call: which it is, and its numbers. One that it hasn't isn't looked at.
+/// A call: which it is, and its numbers. A number that the call doesn't have is ignored.
 #[derive(Clone, Copy, Debug, PartialEq, Eq, Drop)]
 #[repr(C)]
 pub struct Asked {

@@ -14,8 +14,7 @@ use guarded_cell::AnyCell;
 use std::alloc::Global;
 use std::sync::Arc;
 
-/// A caller of a cell, as one CPU, wherever it stands. It shares the cell, which so can't end before it does. It can't be
-/// dropped.
+/// A caller of a cell, as one CPU, in any state. It shares the cell, so the cell can't end before it does. It can't be dropped.
 pub struct Caller<O: SeqObject> {
     pub cell: Arc<AnyCell<O>, Global>,
     pub place: CallerPlace<O>,
@@ -25,7 +24,7 @@ pub struct Caller<O: SeqObject> {
 }
 
 impl<O: SeqObject> Caller<O> {
-    /// Its next step towards the object.
+    /// Performs its next step towards the lock.
     pub fn acquire_step(&mut self) -> Option<Progress>
         ensures cell { arc_value self.new.cell ≡ arc_value self.old.cell }
         ensures step { Between self.old.place self.new.place (λ p q. IsAcquireStep O.SeqObject (arc_value self.old.cell) p result q) }
@@ -36,7 +35,7 @@ impl<O: SeqObject> Caller<O> {
         reported
     }
 
-    /// Its next step to give the object back.
+    /// Performs its next step to release the lock.
     pub fn release_step(&mut self) -> Option<Progress>
         ensures cell { arc_value self.new.cell ≡ arc_value self.old.cell }
         ensures step { Between self.old.place self.new.place (λ p q. IsReleaseStep O.SeqObject (arc_value self.old.cell) p result q) }
@@ -47,7 +46,7 @@ impl<O: SeqObject> Caller<O> {
         reported
     }
 
-    /// A try.
+    /// Tries to acquire the lock.
     pub fn try_hold(&mut self) -> Option<bool>
         ensures cell { arc_value self.new.cell ≡ arc_value self.old.cell }
         ensures tried { Between self.old.place self.new.place (λ p q. IsTried O.SeqObject p result q) }
@@ -58,7 +57,7 @@ impl<O: SeqObject> Caller<O> {
         reported
     }
 
-    /// A call, under its hold.
+    /// Does a call under its hold.
     pub fn apply(&mut self, asked: &O::Call) -> Option<Result<O::Reply, NoRoom>>
         ensures cell { arc_value self.new.cell ≡ arc_value self.old.cell }
         ensures applied { Between self.old.place self.new.place (λ p q. IsApplied O.SeqObject p asked.now result q) }
@@ -69,7 +68,7 @@ impl<O: SeqObject> Caller<O> {
         reported
     }
 
-    /// A whole call, as far as it comes without waiting.
+    /// Does a whole call, as far as it comes without waiting.
     pub fn call(&mut self, asked: &O::Call) -> Whole<Result<O::Reply, NoRoom>>
         ensures cell { arc_value self.new.cell ≡ arc_value self.old.cell }
         ensures called { Between self.old.place self.new.place (λ p q. IsCalled O.SeqObject (arc_value self.old.cell) p asked.now result q) }
@@ -80,7 +79,7 @@ impl<O: SeqObject> Caller<O> {
         reported
     }
 
-    /// A whole call, if nobody has the object or is in line for it.
+    /// Does a whole call if no one holds the lock or is in line for it.
     pub fn try_call(&mut self, asked: &O::Call) -> TriedCall<Result<O::Reply, NoRoom>>
         ensures cell { arc_value self.new.cell ≡ arc_value self.old.cell }
         ensures called { Between self.old.place self.new.place (λ p q. IsTryCalled O.SeqObject (arc_value self.old.cell) p asked.now result q) }

@@ -1,4 +1,4 @@
-//! What is done with what a handle has, of cells.
+//! Effects on the content of a handle, for cells.
 
 ghost use Rattle.std.specs.Prelude.{◌≡◌, ◌↔◌, Err};
 ghost use Rattle.cell_callers.specs.CellContents.{IsOpenedBy, IsBadOpening, IsNewCallerIn, IsOwn, IsReturnedTo, IsClosedBy, step_of, may_be_freed};
@@ -11,7 +11,7 @@ use kernel_object::KernelObject;
 use std::alloc::Global;
 
 impl HandleContent {
-    /// A new cell, where there is nothing.
+    /// Opens a new cell, if the handle is empty.
     pub fn open(self, alloc: Global, opening: &Opening) -> (HandleContent, Result<(), NotOpened>)
         ensures opened { IsOpenedBy self opening.now result.1 result.0 }
         ensures judged { IsBadOpening self opening.now ↔ (result.1 ≡ Err NotOpened.BadOpening) }
@@ -25,7 +25,7 @@ impl HandleContent {
         }
     }
 
-    /// A caller of a cell that has a pass left.
+    /// Creates a caller of a cell that has a pass left.
     pub fn new_caller(self) -> (HandleContent, Result<Caller<KernelObject>, NoNewCaller>)
         ensures { IsNewCallerIn self result.1 result.0 }
     {
@@ -38,7 +38,7 @@ impl HandleContent {
         }
     }
 
-    /// A caller comes back to its cell.
+    /// Returns a caller to its cell.
     pub fn return_caller(
         self,
         caller: Caller<KernelObject>,
@@ -55,7 +55,7 @@ impl HandleContent {
         }
     }
 
-    /// A cell ends, once all callers are back.
+    /// Closes a cell, once all callers are returned.
     pub fn close(self) -> (HandleContent, Result<(), NotClosed>)
         ensures { IsClosedBy self result.1 result.0 }
     {
@@ -68,7 +68,7 @@ impl HandleContent {
         }
     }
 
-    /// A step of the log of a cell that has ended.
+    /// A step of the log of a closed cell.
     pub fn step_at(&self, event: usize, step: usize) -> Option<LoggedStep>
         ensures { result ≡ step_of self.now event step }
     {
@@ -78,7 +78,7 @@ impl HandleContent {
         }
     }
 
-    /// Whether it may be dropped: all but a caller that isn't idle.
+    /// Whether it may be freed: it has no caller, or one that is idle.
     pub fn is_free(&self) -> bool
         ensures { result ≡ may_be_freed self.now }
     {

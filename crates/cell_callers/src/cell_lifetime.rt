@@ -1,4 +1,4 @@
-//! A cell is opened, its passes are given out and come back, and it ends.
+//! A cell is opened, its passes are given out and returned, and it is closed.
 
 ghost use Rattle.std.specs.Prelude.{◌≡◌, ◌≤◌, ◌<◌, ◌+◌, IfOk, IfErr};
 ghost use Rattle.std_alloc.specs.Arc.{arc_value};
@@ -14,7 +14,7 @@ use std::alloc::Global;
 use std::sync::Arc;
 use word_rule::{LockCell, Pass};
 
-/// Why no caller was made.
+/// Why no caller was created.
 #[derive(Clone, Copy, Debug, PartialEq, Eq, Drop)]
 pub enum NoNewCaller {
     /// Each CPU has a caller, or had one.
@@ -26,15 +26,15 @@ pub enum NoNewCaller {
 /// Why a cell wasn't closed.
 #[derive(Clone, Copy, Debug, PartialEq, Eq, Drop)]
 pub enum NotClosed {
-    /// A CPU's caller wasn't given back.
+    /// A CPU's caller wasn't returned.
     NotAllBack,
     /// All were, but the cell has another owner.
     Shared,
 }
 
 impl<O: SeqObject> OpenCell<O> {
-    /// A new cell of the kind around the object, of 1 to 64 CPUs: the log goes on. If memory is refused the object comes back
-    /// as it was.
+    /// Opens a new cell of the kind, of 1 to 64 CPUs, around the object. The log continues. If memory is refused it returns the
+    /// object unchanged.
     pub fn open(
         alloc: Global,
         kind: LockKind,
@@ -62,7 +62,7 @@ impl<O: SeqObject> OpenCell<O> {
         }
     }
 
-    /// Gives out the pass of the greatest CPU that has no caller yet. There is none if all have one.
+    /// Creates the caller of the highest CPU that has none yet. There is none if all have one, or had one.
     pub fn new_caller(self) -> (OpenCell<O>, Result<Caller<O>, NoNewCaller>)
         ensures { IsNewCaller self result.1 result.0 }
     {
@@ -97,7 +97,7 @@ impl<O: SeqObject> OpenCell<O> {
         (rest, Ok(caller))
     }
 
-    // The pass of the next CPU, beside those that were given back.
+    // Joins the pass of the next CPU with those that were returned.
     fn with_back(self, pass: Pass<O>) -> OpenCell<O>
         requires pass { IsHome (arc_value self.cell) self.back pass }
         requires few { self.back < self.cpus }
@@ -126,7 +126,7 @@ impl<O: SeqObject> OpenCell<O> {
         }
     }
 
-    /// Takes back an idle caller of the least CPU that wasn't given back yet. Any other comes back.
+    /// Takes back an idle caller of the lowest CPU that wasn't returned yet. It returns any other.
     pub fn return_caller(self, caller: Caller<O>) -> (OpenCell<O>, Option<Caller<O>>)
         requires { arc_value caller.cell ≡ arc_value self.cell }
         ensures { IsReturned self caller result.1 result.0 }
@@ -147,7 +147,7 @@ impl<O: SeqObject> OpenCell<O> {
         }
     }
 
-    /// Ends the cell, if each CPU's caller was given back, and gives the object back with its log.
+    /// Closes the cell if each CPU's caller was returned. Returns the object with its log.
     pub fn close(self) -> Result<Logged<O>, (OpenCell<O>, NotClosed)>
         ensures { IsClosed self result }
     {

@@ -1,4 +1,4 @@
-//! On the way back from the object, as far as a holder comes without waiting.
+//! The release of the lock, as far as a holder comes without waiting.
 
 ghost use Rattle.std.specs.Prelude.{◌≡◌};
 ghost use Rattle.guarded_cell.specs.{declared.cell.AnyCell.TheVariants.Mcs, Kinds.IsHoldOf};
@@ -28,7 +28,7 @@ pub fn depart_mcs<O: SeqObject>(cell: &McsCell<O>, hold: Hold<O>) -> (CallerStat
     }
 }
 
-/// The holder gives the object back, unless the one behind it has to link itself first: whether it has.
+/// Releases the lock, unless a successor has to link itself first. Returns whether it has.
 #[inline(never)]
 pub fn depart<O: SeqObject>(cell: &AnyCell<O>, hold: Hold<O>) -> (CallerState<O>, bool)
     requires { IsHoldOf cell.now hold }

@@ -1,4 +1,4 @@
-//! What C has of a cell, or of a caller: a pointer.
+//! C's pointer to a cell or a caller.
 
 ghost use Rattle.std.specs.{Prelude.◌≡◌, Borrow.MutBor};
 ghost use Rattle.core.specs.Mem.{manually_drop_value};
@@ -14,7 +14,7 @@ use std::mem::ManuallyDrop;
 /// Owns what lies at its pointer. It can't be dropped.
 #[repr(C)]
 pub struct Handle {
-    // C is shown no type that has an atomic word.
+    // C sees no type with an atomic word.
     ptr: *mut u8,
     alloc: Global,
     pub ghost slot: { Slot } by { slot_coded },
@@ -71,7 +71,7 @@ fn in_handle<X, R, F: FnOnce(HandleContent, X) -> (HandleContent, R)>(
     (Handle::of_parts(Parts::of(block)), reported)
 }
 
-/// Takes out what the handle has, and puts back what f makes of it.
+/// Replaces the content of the handle by the content that f returns.
 pub fn with_content<X, R, F: FnOnce(HandleContent, X) -> (HandleContent, R)>(
     handle: &mut Handle,
     x: X,
@@ -94,7 +94,7 @@ fn at_block<X, R, F: FnOnce(&mut HandleContent, X) -> R>(handle: Handle, x: X, f
     (Handle::of_parts(Parts::of(block)), done)
 }
 
-/// Does f with what the handle has, in its place.
+/// Calls f on the content of the handle, in its place.
 #[inline]
 pub fn at_content<X, R, F: FnOnce(&mut HandleContent, X) -> R>(handle: &mut Handle, x: X, f: F) -> R
     requires { (p : MutBor HandleContent) → p.now ≡ manually_drop_value handle.old.slot → F.pre f p x }

@@ -1,4 +1,4 @@
-//! What a handle has, and what is done with a caller that it has, in its place; where it has none, nothing.
+//! The content of a handle. If it has a caller, the caller does its steps and calls in its place; otherwise nothing is done.
 
 ghost use Rattle.std.specs.Prelude.{◌<◌, ◌≤◌, length};
 ghost use Rattle.event_log.specs.declared.event.TheConstants.{MOST_CALLS};
@@ -13,20 +13,20 @@ use crate::{Caller, OpenCell, Progress, TriedCall, Whole};
 use event_log::{Logged, NoRoom};
 use kernel_object::{KCall, KReply, KernelObject};
 
-/// What a handle has. It can't be dropped.
+/// The content of a handle. It can't be dropped.
 pub enum HandleContent {
-    /// Nothing: a new handle, or one whose caller was given back.
+    /// Nothing: a new handle, or one whose caller was returned.
     Empty,
     /// An open cell.
     Cell(OpenCell<KernelObject>),
     /// A caller of a cell.
     Caller(Caller<KernelObject>),
-    /// The object of a cell that has ended, with its log.
+    /// The object of a closed cell, with its log.
     Ended(Logged<KernelObject>),
 }
 
 impl HandleContent {
-    /// A caller's next step towards the object.
+    /// Performs a caller's next step towards the lock.
     pub fn acquire_step(&mut self) -> Option<Progress>
         ensures { IsAcquireStepIn self.old result self.new }
     {
@@ -36,7 +36,7 @@ impl HandleContent {
         }
     }
 
-    /// A caller's next step to give the object back.
+    /// Performs a caller's next step to release the lock.
     pub fn release_step(&mut self) -> Option<Progress>
         ensures { IsReleaseStepIn self.old result self.new }
     {
@@ -46,7 +46,7 @@ impl HandleContent {
         }
     }
 
-    /// A caller's try.
+    /// Tries to acquire a caller's lock.
     pub fn try_hold(&mut self) -> Option<bool>
         ensures { IsTryIn self.old result self.new }
     {
@@ -56,7 +56,7 @@ impl HandleContent {
         }
     }
 
-    /// A caller's call, under its hold.
+    /// Does a caller's call under its hold.
     pub fn apply(&mut self, call: &KCall) -> Option<Result<KReply, NoRoom>>
         ensures { IsApplyIn call.now self.old result self.new }
     {
@@ -66,7 +66,7 @@ impl HandleContent {
         }
     }
 
-    /// A caller's whole call, as far as it comes without waiting.
+    /// Does a caller's whole call, as far as it comes without waiting.
     pub fn call(&mut self, call: &KCall) -> Whole<Result<KReply, NoRoom>>
         ensures { IsCallIn call.now self.old result self.new }
     {
@@ -76,8 +76,7 @@ impl HandleContent {
         }
     }
 
-    /// The same of a call that is known by name, with what is reported of it. The reply is written where it was done, and the look
-    /// is counted.
+    /// The same for a call by name, with its result. The reply is written if it was done, and the look is counted.
     #[inline]
     pub fn call_by_name(&mut self, call: KCall, answered: &mut Answered, looks: &mut u64) -> u32
         ensures { ReportsCallOf call self.old (answered.old, looks.old) result self.new (answered.new, looks.new) }
@@ -88,8 +87,8 @@ impl HandleContent {
         }
     }
 
-    /// A caller's batch of 1 to 8 calls, as far as it comes without waiting, with what is reported of it. The replies are written
-    /// where it was done, and the look is counted.
+    /// Does a caller's batch of 1 to 8 calls, as far as it comes without waiting, and returns its result. The replies are written
+    /// if it was done, and the look is counted.
     pub fn batch(&mut self, calls: &[KCall], replies: &mut Replies, looks: &mut u64) -> u32
         requires some { 0 < length calls.now }
         requires few { length calls.now ≤ MOST_CALLS }
@@ -101,7 +100,7 @@ impl HandleContent {
         }
     }
 
-    /// A caller's whole call, if nobody has the object or is in line for it.
+    /// Does a caller's whole call if no one holds the lock or is in line for it.
     pub fn try_call(&mut self, call: &KCall) -> TriedCall<Result<KReply, NoRoom>>
         ensures { IsTryCallIn call.now self.old result self.new }
     {

@@ -1,5 +1,5 @@
-//! Callers of cells, for a language that has neither passes nor holds: a caller takes its lock and gives it back step by step, or
-//! calls whole, and stands where it stands between two of them.
+//! Callers of cells, for a language that has neither passes nor holds. A caller acquires and releases its lock step by step, or
+//! does a whole call. Between two of them it stays in one state.
 #![tactic(auto)]
 
 mod acquiring;

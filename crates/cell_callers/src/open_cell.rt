@@ -10,13 +10,13 @@ use std::alloc::Global;
 use std::sync::Arc;
 use word_rule::Pass;
 
-/// A cell with the passes that no caller has: those that weren't given out yet, and one of all that were given back.
+/// A cell with the passes that no caller has: those that weren't given out yet, and one that joins all that were returned.
 #[derive(Drop)]
 pub struct OpenCell<O: SeqObject> {
     pub cell: Arc<AnyCell<O>, Global>,
     /// Pass k owns the CPU k.
     pub passes: Vec<Pass<O>>,
-    /// It owns the first CPUs, as many as were given back.
+    /// It owns the CPUs that were returned, which are the first.
     pub home: Option<Pass<O>>,
     pub back: u8,
     pub cpus: u8,

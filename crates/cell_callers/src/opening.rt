@@ -1,4 +1,4 @@
-//! What C opens a cell with.
+//! The settings with which C opens a cell.
 
 ghost use Rattle.std.specs.Prelude.{◌≡◌, ◌<◌, ◌≤◌, ◌↔◌, ◌⊎◌, false, IfOk, IfErr, OnErr, Err};
 ghost use Rattle.sound_run.specs.declared.limits.TheConstants.{MOST_CPUS};
@@ -14,8 +14,8 @@ use sound_run::{LockKind, MOST_CPUS};
 use std::alloc::Global;
 use wake_list::SchedParams;
 
-/// A cell to be: the numbers of its lock and its kind of object, the most events of its log, its CPUs, and what the object is
-/// opened for. With 0 events the log isn't kept in memory.
+/// The settings of a cell: the numbers of its lock and its kind of object, the limit of its log in events, its CPUs, and the
+/// parameters of the object. With 0 events the log isn't kept in memory.
 #[derive(Clone, Copy, Debug, PartialEq, Eq, Drop)]
 #[repr(C)]
 pub struct Opening {
@@ -31,9 +31,9 @@ pub struct Opening {
 /// Why no cell was opened.
 #[derive(Clone, Copy, Debug, PartialEq, Eq, Drop)]
 pub enum NotOpened {
-    /// The handle has something, or, where a cell is to go on, no cell that has ended.
+    /// The handle isn't empty, or, for a reopening, has no closed cell.
     NotEmpty,
-    /// A number is none of those that fit.
+    /// A number doesn't fit.
     BadOpening,
     OutOfMemory,
 }
@@ -67,7 +67,7 @@ pub fn lock_numbered(number: u32) -> Option<LockKind>
         .copied()
 }
 
-/// So many CPUs, if a cell can have them.
+/// The number of CPUs, if a cell can have it.
 pub fn cpus_numbered(number: u32) -> Option<u8>
     ensures { result ≡ cpus_numbered number }
 {
@@ -77,8 +77,8 @@ pub fn cpus_numbered(number: u32) -> Option<u8>
     Some(number as u8)
 }
 
-/// A new object with its log, whose memory is written once; with 0 events the log isn't kept in memory. It is apart, as what it
-/// has on the stack is long, and gone before the cell is opened.
+/// A new object with its log, whose memory is written once; with 0 events the log isn't kept in memory. This is a function of its
+/// own because its stack frame is large, and is gone before the cell is opened.
 #[inline(never)]
 fn open_object(
     alloc: Global,
@@ -96,7 +96,7 @@ fn open_object(
     Ok(logged)
 }
 
-/// A new cell. There is none if a number doesn't fit, which is judged first, or if memory is refused.
+/// Opens a new cell. There is none if a number doesn't fit, which is checked first, or if memory is refused.
 pub fn open_cell(alloc: Global, opening: &Opening) -> Result<OpenCell<KernelObject>, NotOpened>
     ensures opened { IfOk result (λ c. IsOpened opening.now c) }
     ensures judged { IsUnfit opening.now ↔ (result ≡ Err NotOpened.BadOpening) }

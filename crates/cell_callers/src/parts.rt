@@ -1,11 +1,11 @@
-//! A `Box` with its fields in sight of this crate, as C has a pointer where Rattle has a `Box`.
+//! A `Box` with fields that this crate can see, as C has a pointer where Rattle has a `Box`.
 
 ghost use Rattle.std.specs.{Prelude.◌≡◌, Box.Ownership.box_owns};
 
 use std::alloc::Allocator;
 use std::marker::Model;
 
-/// What a `Box` consists of.
+/// The parts of a `Box`.
 pub struct Parts<T, A: Allocator> {
     pub(crate) ptr: *mut T,
     pub(crate) alloc: A,

@@ -1,4 +1,4 @@
-//! The results that C gets are the numbers that `specs/CodeNumbers.antt` has.
+//! The results that C gets are the numbers of `specs/CodeNumbers.antt`.
 
 ghost use Rattle.cell_callers.specs.CodeNumbers.{AreCodeNumbers};
 

@@ -1,4 +1,5 @@
-//! The place of a caller: that of an idle caller's pass, and that of any other. A call that meets nobody changes the first alone.
+//! The place of a caller: one part for the pass of an idle caller, and one for any other state. A call that meets nobody changes
+//! only the first.
 
 ghost use Rattle.std.specs.Prelude.{◌≡◌, None, Some, is_some, IsSome};
 ghost use Rattle.cell_callers.specs.Places.{place_of, IsAway};
@@ -8,16 +9,16 @@ use core::mem::replace;
 use event_log::SeqObject;
 use word_rule::Pass;
 
-/// Where a caller stands. While a call is on its way neither part is there. It can't be dropped.
+/// The place of a caller. While a call is in progress both parts are empty. It can't be dropped.
 pub struct CallerPlace<O: SeqObject> {
     /// The pass of an idle caller.
     pub pass: Option<Pass<O>>,
-    /// What any other has.
+    /// The state of a caller that isn't idle.
     pub line: Option<CallerState<O>>,
 }
 
 impl<O: SeqObject> CallerPlace<O> {
-    /// The place of a caller that stands there.
+    /// The place of a caller in that state.
     pub fn of(state: CallerState<O>) -> CallerPlace<O>
         ensures { place_of result ≡ Some state }
     {
@@ -33,7 +34,7 @@ impl<O: SeqObject> CallerPlace<O> {
         }
     }
 
-    /// Where that caller stands.
+    /// The state of the caller in that place.
     pub fn into_state(self) -> CallerState<O>
         requires { IsSome (place_of self) }
         ensures { place_of self ≡ Some result }
@@ -51,14 +52,14 @@ impl<O: SeqObject> CallerPlace<O> {
         }
     }
 
-    /// Whether an idle caller stands there.
+    /// Whether the caller is idle.
     pub fn is_idle(&self) -> bool
         ensures { result ≡ is_some self.now.pass }
     {
         self.pass.is_some()
     }
 
-    /// Takes out where the caller stands, as its call begins.
+    /// Takes out the state of the caller, as its call begins.
     #[inline]
     pub fn take(&mut self) -> CallerState<O>
         requires { IsSome (place_of self.old) }
@@ -74,7 +75,7 @@ impl<O: SeqObject> CallerPlace<O> {
         }
     }
 
-    /// The caller stands there, once its call isn't on its way any more.
+    /// Puts the state of the caller in the place, as its call ends.
     #[inline]
     pub fn put(&mut self, state: CallerState<O>)
         requires { IsAway self.old }
@@ -87,7 +88,7 @@ impl<O: SeqObject> CallerPlace<O> {
     }
 }
 
-/// Puts the state where none is.
+/// Puts the state in an empty place.
 pub fn put_line<O: SeqObject>(line: &mut Option<CallerState<O>>, state: CallerState<O>)
     requires { line.old ≡ None }
     ensures { line.new ≡ Some state }

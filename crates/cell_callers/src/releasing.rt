@@ -1,4 +1,4 @@
-//! The steps by which the object is given back.
+//! The steps by which the lock is released.
 
 ghost use Rattle.std.specs.Prelude.{◌≡◌};
 ghost use Rattle.cell_callers.specs.{CallerStates.{IsOf, state_of}, Steps.IsReleaseStep};
@@ -55,7 +55,7 @@ fn release_step_mcs<O: SeqObject>(
     }
 }
 
-/// The caller's next step to give the object back. One that hasn't the object does nothing.
+/// Performs the caller's next step to release the lock. A caller that doesn't hold it does nothing.
 pub fn release_step<O: SeqObject>(
     cell: &AnyCell<O>,
     state: CallerState<O>,

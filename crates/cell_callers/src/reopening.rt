@@ -1,4 +1,4 @@
-//! A cell that has ended goes on.
+//! A closed cell is reopened.
 
 ghost use Rattle.cell_callers.specs.Reopenings.{IsReopenedBy, IsForgotten};
 
@@ -7,7 +7,7 @@ use crate::{HandleContent, OpenCell};
 use std::alloc::Global;
 
 impl HandleContent {
-    /// A new cell of that lock and so many CPUs, on the object of one that has ended: the log goes on.
+    /// Opens a new cell of that lock and number of CPUs, on the object of a closed one. The log continues.
     pub fn reopen(
         self,
         alloc: Global,
@@ -33,7 +33,7 @@ impl HandleContent {
         }
     }
 
-    /// The log of a cell that has ended isn't kept any more, and has room for 2^64 - 1 events.
+    /// Stops keeping the log of a closed cell, which then has room for 2^64 - 1 events.
     pub fn forget(self, alloc: Global) -> (HandleContent, bool)
         ensures { IsForgotten self result.1 result.0 }
     {

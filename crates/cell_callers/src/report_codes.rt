@@ -1,4 +1,4 @@
-//! The numbers by which callers in C learn what became of a call.
+//! The results of calls, as the numbers that C gets.
 
 ghost use Rattle.std.specs.Prelude.{◌≡◌};
 ghost use Rattle.cell_callers.specs.{Codes.{progress_code, try_code, answer_code, kept_code, call_code, looks_after, has_looked, opening_code}, BatchCodes.ReportsAll};
@@ -48,7 +48,7 @@ pub const DONE_HELD: u32 = 12;
 
 pub const LOG_FULL_HELD: u32 = 13;
 
-/// What is reported of a step.
+/// The result of a step.
 pub fn progress_code(reported: Option<Progress>) -> u32
     ensures { result ≡ progress_code reported }
 {
@@ -62,7 +62,7 @@ pub fn progress_code(reported: Option<Progress>) -> u32
     }
 }
 
-/// What is reported of a try.
+/// The result of a try.
 pub fn try_code(reported: Option<bool>) -> u32
     ensures { result ≡ try_code reported }
 {
@@ -73,7 +73,7 @@ pub fn try_code(reported: Option<bool>) -> u32
     }
 }
 
-/// What is reported of what was answered, which is written where the call was done.
+/// The result of an answer, which is written if the call was done.
 #[inline]
 pub fn answer_code(
     done: Result<KReply, NoRoom>,
@@ -105,7 +105,7 @@ pub fn shared_answer_code(
     answer_code(done, done_as, full_as, answered)
 }
 
-/// The same as is reported of a call, where the object isn't given back yet.
+/// The result of a call whose lock isn't released yet, from its result otherwise.
 pub fn kept_code(reported: u32) -> u32
     ensures { result ≡ kept_code reported }
 {
@@ -116,7 +116,7 @@ pub fn kept_code(reported: u32) -> u32
     }
 }
 
-/// One look more, if that was one.
+/// Adds one to the looks, if there was a look.
 #[inline]
 pub fn count_look(looked: bool, looks: &mut u64)
     ensures { looks.new ≡ looks_after looked looks.old }
@@ -126,7 +126,7 @@ pub fn count_look(looked: bool, looks: &mut u64)
     }
 }
 
-/// What is reported of a whole call. The reply is written where it was done, and the look is counted.
+/// The result of a whole call. The reply is written if it was done, and the look is counted.
 #[inline]
 pub fn call_code(
     whole: Whole<Result<KReply, NoRoom>>,
@@ -149,7 +149,7 @@ pub fn call_code(
     answer_code(done, done_as, full_as, answered)
 }
 
-/// What is reported of the steps that were done, whose replies are written.
+/// The result of the steps that were done, whose replies are written.
 pub fn steps_code(
     done: Result<Steps<KernelObject>, NoRoom>,
     done_as: u32,
@@ -167,7 +167,7 @@ pub fn steps_code(
     }
 }
 
-/// What is reported of an opening.
+/// The result of an opening.
 pub fn opening_code(reported: Result<(), NotOpened>) -> u32
     ensures { result ≡ opening_code reported }
 {

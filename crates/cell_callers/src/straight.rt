@@ -1,5 +1,5 @@
-//! The way of most calls: an idle caller that meets nobody comes to the object, does the call, and gives the object back. What is
-//! seldom is in functions of its own, which report by themselves, so that its locals aren't cleared on this way.
+//! The path of most calls: an idle caller that meets nobody acquires the lock, does the call, and releases the lock. Rare cases are
+//! in functions of their own, which return the result themselves, so that this path needn't clear their locals.
 
 ghost use Rattle.std.specs.Prelude.{◌≡◌, true, None, Some};
 ghost use Rattle.guarded_cell.specs.{declared.cell.AnyCell.AnyCell, declared.cell.AnyCell.TheVariants.{Ticket, Mcs}};
@@ -26,7 +26,7 @@ use word_rule::Pass;
 
 type Line = Option<CallerState<KernelObject>>;
 
-// A caller that isn't idle goes on where it stands.
+// A caller that isn't idle continues from its state.
 #[cold]
 #[inline(never)]
 fn go_on(
@@ -45,7 +45,7 @@ fn go_on(
     call_code(whole, answered, looks)
 }
 
-// It has looked in vain.
+// After a failed look.
 #[cold]
 #[inline(never)]
 fn wait_drawn(line: &mut Line, drawn: Drawn<KernelObject>, looks: &mut u64) -> u32
@@ -59,7 +59,7 @@ fn wait_drawn(line: &mut Line, drawn: Drawn<KernelObject>, looks: &mut u64) -> u
     AGAIN
 }
 
-// It is behind another: it arms itself, links itself, and looks.
+// A caller with another before it in the queue arms itself, links itself, and looks.
 #[cold]
 #[inline(never)]
 fn come_behind(
@@ -84,7 +84,7 @@ fn come_behind(
     call_code(whole, answered, looks)
 }
 
-// It keeps the object, as the caller behind it has to link itself first.
+// It still holds the lock, as its successor has to link itself first.
 #[cold]
 #[inline(never)]
 fn keep(line: &mut Line, leaving: Leaving<KernelObject>, reported: u32) -> u32
@@ -96,7 +96,7 @@ fn keep(line: &mut Line, leaving: Leaving<KernelObject>, reported: u32) -> u32
     kept_code(reported)
 }
 
-// Apart, since somebody is seldom behind it.
+// A function of its own, since there is seldom a successor.
 #[cold]
 #[inline(never)]
 fn pass_on(cell: &McsCell<KernelObject>, passing: Passing<KernelObject>) -> Pass<KernelObject>
@@ -166,8 +166,8 @@ fn straight_mcs(
     reported
 }
 
-/// A whole call, as far as it comes without waiting, and what is reported of it. The reply is written where it was done, and the
-/// look is counted.
+/// Does a whole call, as far as it comes without waiting, and returns its result. The reply is written if it was done, and the look
+/// is counted.
 #[inline]
 pub fn call_straight(
     caller: &mut Caller<KernelObject>,

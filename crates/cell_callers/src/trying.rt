@@ -1,4 +1,4 @@
-//! A try: it gets the object if nobody has it or is in line for it.
+//! A try: it acquires the lock if no one holds it or is in line for it.
 
 ghost use Rattle.std.specs.Prelude.{◌≡◌, Some, true, false, IfOk, IfErr};
 ghost use Rattle.guarded_cell.specs.Kinds.{IsPassOf, IsHoldOf};
@@ -10,7 +10,7 @@ use event_log::SeqObject;
 use guarded_cell::AnyCell;
 use word_rule::{Hold, LockCell, Pass};
 
-/// The object, if nobody has it or is in line for it.
+/// Acquires the lock if no one holds it or is in line for it.
 #[inline(never)]
 pub fn try_pass<O: SeqObject>(cell: &AnyCell<O>, pass: Pass<O>) -> Result<Hold<O>, Pass<O>>
     requires { IsPassOf cell.now pass }
@@ -24,7 +24,7 @@ pub fn try_pass<O: SeqObject>(cell: &AnyCell<O>, pass: Pass<O>) -> Result<Hold<O
     cell.try_acquire(pass)
 }
 
-/// Gets the object if nobody has it or is in line for it; else the caller is as it was. One that isn't idle does nothing.
+/// Acquires the lock if no one holds it or is in line for it; otherwise the caller stays idle. One that isn't idle does nothing.
 pub fn try_hold<O: SeqObject>(
     cell: &AnyCell<O>,
     state: CallerState<O>,

@@ -1,4 +1,4 @@
-//! A cell that nobody has called ends.
+//! A cell that nobody has called is closed.
 
 ghost use Rattle.std.specs.Prelude.{◌≡◌, ◌<◌, true, vec_len};
 ghost use Rattle.word_rule.specs.{Cell.{EachAt, stored}, Passes.view_of_pass};
@@ -23,7 +23,7 @@ fn join_unused<O: SeqObject>(cell: &AnyCell<O>, first: Pass<O>, others: Vec<Pass
     whole
 }
 
-/// Ends a cell that nobody has called, by the passes of all its CPUs. Its object is as it was.
+/// Closes a cell that nobody has called, by the passes of all its CPUs. Its object is unchanged.
 pub fn end_unused<O: SeqObject>(cell: AnyCell<O>, passes: Vec<Pass<O>>) -> Logged<O>
     requires some { 0 < vec_len passes }
     requires all { (fixed_of cell).numbers ≡ vec_len passes }

@@ -1,4 +1,4 @@
-//! Whole calls, as far as they come without waiting: to the object, the call, and back.
+//! Whole calls, as far as they come without waiting: acquire the lock, do the call, and release the lock.
 
 ghost use Rattle.std.specs.Prelude.{◌≡◌, false};
 ghost use Rattle.guarded_cell.specs.{Kinds.IsHoldOf, declared.cell.AnyCell.AnyCell, declared.cell.AnyCell.TheVariants.{Ticket, Mcs}};
@@ -18,24 +18,24 @@ use word_rule::Hold;
 /// How far a whole call came.
 #[derive(Drop)]
 pub enum Whole<D> {
-    /// It was answered so, and the object is given back. It came by a look, or without one.
+    /// The call has this answer, and the lock is released. It was acquired by a look, or without one.
     Done(D, bool),
-    /// The same, but the object isn't given back yet: another has come, and has to link itself first.
+    /// The same, but the lock isn't released yet: a successor has come, and has to link itself first.
     Kept(D, bool),
-    /// The caller is in line, and has looked in vain.
+    /// The caller is in line, after a failed look.
     Waits,
     /// Nothing was done, since the caller isn't idle or at a look.
     Refused,
 }
 
-/// How far a whole call came that is a try.
+/// How far a whole call by a try came.
 #[derive(Drop)]
 pub enum TriedCall<D> {
-    /// It was answered so, and the object is given back.
+    /// The call has this answer, and the lock is released.
     Done(D),
-    /// The same, but the object isn't given back yet: another has come, and has to link itself first.
+    /// The same, but the lock isn't released yet: a successor has come, and has to link itself first.
     Kept(D),
-    /// Another has the object or is in line for it, and nothing was done.
+    /// Another caller holds the lock or is in line for it, and nothing was done.
     Busy,
     /// Nothing was done, since the caller isn't idle.
     Refused,
@@ -80,7 +80,7 @@ fn call_held<O: SeqObject>(
     (state, done, is_back)
 }
 
-// A whole call of a caller that has arrived.
+// Does a whole call of a caller that has arrived.
 #[cold]
 #[inline(never)]
 pub fn call_arrived<O: SeqObject>(
@@ -102,7 +102,7 @@ pub fn call_arrived<O: SeqObject>(
     }
 }
 
-/// A whole call of any caller, as far as it comes without waiting.
+/// Does a whole call of any caller, as far as it comes without waiting.
 #[cold]
 pub fn call_in_line<O: SeqObject>(
     cell: &AnyCell<O>,
@@ -120,7 +120,7 @@ pub fn call_in_line<O: SeqObject>(
     }
 }
 
-/// A whole call, if nobody has the object or is in line for it.
+/// Does a whole call if no one holds the lock or is in line for it.
 #[inline]
 pub fn try_call<O: SeqObject>(
     cell: &AnyCell<O>,

@@ -1,15 +1,15 @@
--- What each call from C does, and reports.
+-- The effect and the result of each export on a caller.
 use Rattle.std.specs.Prelude.{◌≡◌, ℕ, ◌==◌, ◌||◌, nat_lt, List, Bool, true, false, Option, Some, None, Result}
 use Rattle.core.specs.Mem.{manually_drop_value}
 use Rattle.event_log.specs.{declared.logged.NoRoom.NoRoom, declared.event.TheConstants.MOST_CALLS}
 use Rattle.kernel_object.specs.{declared.call.KCall.KCall, declared.call.KReply.KReply}
 use Rattle.cell_callers.specs.{declared.handle_content.HandleContent.HandleContent, declared.call_numbers.Asked.Asked, declared.call_numbers.Answered.Answered, declared.report_codes.TheConstants.{REFUSED, NOT_FOUND}, declared.batching.Batch.Batch, declared.batching.Replies.Replies, BatchCodes.{batch_calls, ReportsWhole}, declared.whole.Whole.Whole, declared.whole.TriedCall.TriedCall, declared.handle.Handle.Handle, declared.progress.Progress.Progress, HandleContents.{IsAcquireStepIn, IsReleaseStepIn, IsTryIn, IsApplyIn, IsBatchIn, IsTryCallIn, KernelSteps}, Coding.called_of, CallReports.ReportsCallOf, Codes.{progress_code, try_code, apply_code, try_call_code, looks_after, has_looked}}
 
--- what the handle has
+-- the content of the handle
 abbrev pub content_of : Handle → HandleContent
 content_of h = manually_drop_value h.slot
 
--- a step that reports this
+-- a step was done or refused, and n is its result
 abbrev pub ReportsAcquireStep : HandleContent → ℕ → HandleContent → Type 0
 ReportsAcquireStep before n after = (reported : Option Progress) × (n ≡ progress_code reported) × IsAcquireStepIn before reported after
 
@@ -19,7 +19,7 @@ ReportsReleaseStep before n after = (reported : Option Progress) × (n ≡ progr
 abbrev pub ReportsTry : HandleContent → ℕ → HandleContent → Type 0
 ReportsTry before n after = (reported : Option Bool) × (n ≡ try_code reported) × IsTryIn before reported after
 
--- a call of these numbers, of which Q says what was done and reported; where there is none, nothing was done, nor written
+-- Q holds of the call with these numbers; if there is no such call, the result says so, and nothing was done or written
 abbrev pub IfCall : {S : Type 0} → Option KCall → (KCall → Type 0) → HandleContent → S → ℕ → HandleContent → S → Type 0
 IfCall (Some call) Q before old n after new = Q call
 IfCall None Q before old n after new = (n ≡ NOT_FOUND) × (after ≡ before) × (new ≡ old)
@@ -31,7 +31,7 @@ ReportsApply before asked old n after new = IfCall (called_of asked) (λ call. (
 abbrev pub ReportsCall : HandleContent → Asked → Answered × ℕ → ℕ → HandleContent → Answered × ℕ → Type 0
 ReportsCall before asked old n after new = IfCall (called_of asked) (λ call. ReportsCallOf call before old n after new) before old n after new
 
--- a batch of these calls; where one isn't there, nothing was done, nor written
+-- the batch of these calls; if one of them doesn't exist, the result says so, and nothing was done or written
 abbrev pub ReportsBatchOf : Option (List KCall) → HandleContent → Replies × ℕ → ℕ → HandleContent → Replies × ℕ → Type 0
 ReportsBatchOf (Some calls) before old n after new = (reported : Whole (Result KernelSteps NoRoom)) × ReportsWhole reported n old.0 new.0 × (new.1 ≡ looks_after (has_looked reported) old.1) × IsBatchIn calls before reported after
 ReportsBatchOf None before old n after new = (n ≡ NOT_FOUND) × (after ≡ before) × (new ≡ old)

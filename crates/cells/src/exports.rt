@@ -1,4 +1,4 @@
-//! The calls that C has on a caller.
+//! The exports that take a caller: single steps of the lock, tries and whole calls.
 
 ghost use Rattle.cells.specs.Exports.{content_of, ReportsAcquireStep, ReportsReleaseStep, ReportsTry, ReportsApply, ReportsCall, ReportsBatch, ReportsTryCall};
 
@@ -10,7 +10,9 @@ use cell_callers::{
 };
 use event_log::MOST_CALLS;
 
-/// The caller's next step towards the object.
+/// Performs the caller's next step towards the lock: one atomic operation on one word of it.
+/// Returns STEPPED: call again at once; AGAIN: pause first; ACQUIRED, ACQUIRED_BY_LOOK; REFUSED: it already holds the lock, or
+/// isn't a caller.
 #[unsafe(no_mangle)]
 pub extern "C" fn mc2_acquire_step(caller: &mut Handle) -> u32
     ensures { ReportsAcquireStep (content_of caller.old) result (content_of caller.new) }
@@ -18,7 +20,9 @@ pub extern "C" fn mc2_acquire_step(caller: &mut Handle) -> u32
     progress_code(at_content(caller, (), |content, ()| content.acquire_step()))
 }
 
-/// The caller's next step to give the object back.
+/// Performs the caller's next step to release the lock.
+/// Returns STEPPED; AGAIN: a successor has entered an MCS queue and hasn't linked itself yet; RELEASED; REFUSED: it doesn't hold
+/// the lock, or isn't a caller.
 #[unsafe(no_mangle)]
 pub extern "C" fn mc2_release_step(caller: &mut Handle) -> u32
     ensures { ReportsReleaseStep (content_of caller.old) result (content_of caller.new) }
@@ -26,7 +30,8 @@ pub extern "C" fn mc2_release_step(caller: &mut Handle) -> u32
     progress_code(at_content(caller, (), |content, ()| content.release_step()))
 }
 
-/// A try: the object, if nobody has it or is in line for it.
+/// Acquires the lock if no one holds it or is in line, by one look at most.
+/// Returns ACQUIRED_BY_LOOK; BUSY: nothing was done; REFUSED: the caller isn't idle, or isn't a caller.
 #[unsafe(no_mangle)]
 pub extern "C" fn mc2_poll_try_acquire(caller: &mut Handle) -> u32
     ensures { ReportsTry (content_of caller.old) result (content_of caller.new) }
@@ -34,7 +39,8 @@ pub extern "C" fn mc2_poll_try_acquire(caller: &mut Handle) -> u32
     try_code(at_content(caller, (), |content, ()| content.try_hold()))
 }
 
-/// A call by a caller that has the object. Where it is done, the reply is written.
+/// Performs one call as one event of the log. The caller must hold the lock.
+/// Returns DONE: the reply is written; LOG_FULL, NOT_FOUND: nothing was done; REFUSED: it doesn't hold the lock.
 #[unsafe(no_mangle)]
 pub extern "C" fn mc2_apply_step(caller: &mut Handle, asked: &Asked, answered: &mut Answered) -> u32
     ensures { ReportsApply (content_of caller.old) asked.now answered.old result (content_of caller.new) answered.new }
@@ -48,7 +54,11 @@ pub extern "C" fn mc2_apply_step(caller: &mut Handle, asked: &Asked, answered: &
     }
 }
 
-/// A whole call, as far as it comes without waiting. Where it is done, the reply is written. The looks are counted on.
+/// Acquires the lock, performs the call as one event, and releases the lock, as far as this needs no waiting. A look adds 1 to
+/// `looks`; there is at most one.
+/// Returns DONE: the reply is written; LOG_FULL: the call wasn't performed; AGAIN: the caller is in line, and the object is
+/// untouched; DONE_HELD, LOG_FULL_HELD: the same as without HELD, but the caller still holds the lock, as a successor hasn't linked
+/// itself yet; NOT_FOUND: there is no such call; REFUSED: the caller isn't idle or at a look.
 #[unsafe(no_mangle)]
 pub extern "C" fn mc2_poll_call(
     caller: &mut Handle,
@@ -65,8 +75,9 @@ pub extern "C" fn mc2_poll_call(
     call_code(whole, answered, looks)
 }
 
-/// A batch of 1 to 8 calls, which are one event, as far as it comes without waiting. Where it is done, the replies are written. The
-/// looks are counted on.
+/// Performs 1 to 8 calls as one event, as far as this needs no waiting. The event ends with the first call whose reply refuses it.
+/// Returns as `mc2_poll_call`. REFUSED also for 0 or more than 8 calls; NOT_FOUND: one of the calls doesn't exist, and nothing was
+/// done. The replies are written if the event was performed.
 #[unsafe(no_mangle)]
 pub extern "C" fn mc2_poll_batch(
     caller: &mut Handle,
@@ -83,7 +94,7 @@ pub extern "C" fn mc2_poll_batch(
     if !write_calls(batch, &mut calls) {
         return NOT_FOUND;
     }
-    // (by their values, as `at_content` says nothing of what is left behind a borrow that it hands on)
+    // (by value: the contract of `at_content` doesn't say which value a borrow has after `at_content` has passed it on)
     let (reported, said, looked) = at_content(
         caller,
         (calls.as_slice(), *replies, *looks),
@@ -98,7 +109,8 @@ pub extern "C" fn mc2_poll_batch(
     reported
 }
 
-/// A whole call, if nobody has the object or is in line for it. Where it is done, the reply is written.
+/// Performs a whole call if no one holds the lock or is in line. It never joins the line.
+/// Returns as `mc2_poll_call`, with BUSY in place of AGAIN: nothing was done. REFUSED: the caller isn't idle, or isn't a caller.
 #[unsafe(no_mangle)]
 pub extern "C" fn mc2_poll_try_call(
     caller: &mut Handle,

@@ -1,4 +1,4 @@
-//! The calls that C has on a cell, and on a new handle.
+//! The exports that make or free a handle, or take a cell.
 
 ghost use Rattle.std.specs.Prelude.{◌≡◌, ◌⊎◌, ◌↔◌};
 ghost use Rattle.cell_callers.specs.{declared.report_codes.TheConstants.{BAD_PARAM, DONE, NO_MEMORY}, CellContents.IsBadOpening, declared.handle_content.HandleContent.TheVariants.Empty};
@@ -12,7 +12,7 @@ use kernel_object::KernelObject;
 use std::alloc::Global;
 use std::mem::ManuallyDrop;
 
-/// Takes out what the handle has.
+/// Takes the content out of the handle, which is then empty.
 fn take_content(handle: &mut Handle) -> HandleContent
     ensures content { result ≡ content_of handle.old }
     ensures after { content_of handle.new ≡ Empty }
@@ -20,7 +20,7 @@ fn take_content(handle: &mut Handle) -> HandleContent
     with_content(handle, (), |content, ()| (HandleContent::Empty, content))
 }
 
-/// The handle has that, and no longer what it had.
+/// Puts the content in the empty handle.
 fn put_content(handle: &mut Handle, content: HandleContent)
     requires { content_of handle.old ≡ Empty }
     ensures { content_of handle.new ≡ content }
@@ -29,7 +29,7 @@ fn put_content(handle: &mut Handle, content: HandleContent)
     let _nothing = unsafe { ManuallyDrop::new_unchecked(old) };
 }
 
-// An idle caller's pass is lost, and so its cell can't be closed any more.
+// Frees a caller. The pass of an idle caller is lost, so its cell can't be closed any more.
 fn drop_caller(caller: Caller<KernelObject>) {
     let Caller { cell, place } = caller;
     drop(cell);
@@ -41,7 +41,8 @@ fn drop_caller(caller: Caller<KernelObject>) {
     }
 }
 
-/// Makes a handle that has nothing, and writes its pointer.
+/// Allocates an empty handle and stores its pointer in `own`.
+/// Returns DONE; NO_MEMORY: `own` is unchanged.
 #[unsafe(no_mangle)]
 pub extern "C" fn mc2_handle_alloc(alloc: Global, own: &mut *mut u8) -> u32
     ensures codes { (result ≡ DONE) ⊎ (result ≡ NO_MEMORY) }
@@ -55,7 +56,8 @@ pub extern "C" fn mc2_handle_alloc(alloc: Global, own: &mut *mut u8) -> u32
     DONE
 }
 
-/// Frees the handle with what it has, unless that is a caller that isn't idle.
+/// Frees a handle with everything that it has.
+/// Returns DONE; REFUSED: it has a caller that isn't idle, and nothing was freed.
 #[unsafe(no_mangle)]
 pub extern "C" fn mc2_handle_free(handle: Handle) -> u32
     ensures { ReportsFreeing (content_of handle) result }
@@ -75,7 +77,9 @@ pub extern "C" fn mc2_handle_free(handle: Handle) -> u32
     DONE
 }
 
-/// Opens a cell.
+/// Opens a cell in an empty handle.
+/// Returns DONE; REFUSED: the handle isn't empty; BAD_PARAM: a number doesn't fit; NO_MEMORY. After an error the handle is
+/// unchanged.
 #[unsafe(no_mangle)]
 pub extern "C" fn mc2_handle_open_cell(alloc: Global, cell: &mut Handle, opening: &Opening) -> u32
     ensures opened { ReportsOpening (content_of cell.old) opening.now result (content_of cell.new) }
@@ -88,7 +92,9 @@ pub extern "C" fn mc2_handle_open_cell(alloc: Global, cell: &mut Handle, opening
     ))
 }
 
-/// Makes a caller of the greatest CPU of the cell that has none yet.
+/// Creates, in the empty handle `caller`, the caller of the highest CPU that has none yet.
+/// Returns DONE; REFUSED: the cell isn't open, each CPU has a caller or had one, or `caller` isn't empty; NO_MEMORY: the cell has
+/// as many owners as can be counted.
 #[unsafe(no_mangle)]
 pub extern "C" fn mc2_handle_open_caller(cell: &mut Handle, caller: &mut Handle) -> u32
     ensures { ReportsNewCaller (content_of cell.old) (content_of caller.old) result (content_of cell.new) (content_of caller.new) }
@@ -109,7 +115,8 @@ pub extern "C" fn mc2_handle_open_caller(cell: &mut Handle, caller: &mut Handle)
     }
 }
 
-/// Takes an idle caller back, of the least CPU that wasn't taken back yet.
+/// Returns an idle caller to its cell; the caller's handle is then empty. Callers go back in ascending order of CPU.
+/// Returns DONE; REFUSED: the cell isn't open, the caller isn't idle, or its CPU isn't the lowest whose caller wasn't returned yet.
 #[unsafe(no_mangle)]
 pub extern "C" fn mc2_handle_return_caller(cell: &mut Handle, caller: &mut Handle) -> u32
     requires { owns_back (content_of cell.old) (content_of caller.old) }
@@ -134,7 +141,8 @@ pub extern "C" fn mc2_handle_return_caller(cell: &mut Handle, caller: &mut Handl
     }
 }
 
-/// Ends the cell, once all callers were taken back.
+/// Closes a cell to which every caller was returned. The object and its log remain.
+/// Returns DONE; REFUSED: the cell isn't open, or a caller wasn't returned; BUSY: the cell has another owner.
 #[unsafe(no_mangle)]
 pub extern "C" fn mc2_handle_close_cell(cell: &mut Handle) -> u32
     ensures { ReportsClosing (content_of cell.old) result (content_of cell.new) }
@@ -146,7 +154,9 @@ pub extern "C" fn mc2_handle_close_cell(cell: &mut Handle) -> u32
     }
 }
 
-/// Opens a cell of that lock and so many CPUs on the object of one that was closed. The log goes on.
+/// Reopens a closed cell on its object, with the given lock, for the given number of CPUs. The log continues.
+/// Returns DONE; REFUSED: the cell isn't closed; BAD_PARAM: a number doesn't fit; NO_MEMORY. After an error the handle is
+/// unchanged.
 #[unsafe(no_mangle)]
 pub extern "C" fn mc2_handle_reopen_cell(
     alloc: Global,
@@ -164,7 +174,8 @@ pub extern "C" fn mc2_handle_reopen_cell(
     ))
 }
 
-/// From now on the log of a cell that was closed isn't kept, and has room for 2^64 - 1 events.
+/// Stops keeping the log of a closed cell. From then on it can't be read, and has room for 2^64 - 1 events.
+/// Returns DONE; REFUSED: the cell isn't closed.
 #[unsafe(no_mangle)]
 pub extern "C" fn mc2_handle_drop_log(alloc: Global, cell: &mut Handle) -> u32
     ensures { ReportsForgetting (content_of cell.old) result (content_of cell.new) }
@@ -176,7 +187,8 @@ pub extern "C" fn mc2_handle_drop_log(alloc: Global, cell: &mut Handle) -> u32
     }
 }
 
-/// The step at that place of an event of a cell that has ended, both from 0. It is written where there is one.
+/// Reads one step of the log of a closed cell. Both indices count from 0.
+/// Returns DONE: the step is written; NOT_FOUND: there is no such step, the cell isn't closed, or its log isn't kept.
 #[unsafe(no_mangle)]
 pub extern "C" fn mc2_handle_read_step(
     cell: &mut Handle,

@@ -1,4 +1,4 @@
-//! Cells for callers in C: a static library over `cell_callers`, whose functions are those of a C program.
+//! Cells for callers in C: a static library over `cell_callers`, whose exports C programs call.
 #![tactic(auto)]
 
 mod exports;

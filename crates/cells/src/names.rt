@@ -1,5 +1,6 @@
-//! The calls by name that C has on a caller: each is a whole call, as far as it comes without waiting. Which call it is is known when
-//! this is compiled, so that nothing of the others is in its way. At an object of another kind it is answered `badcall`.
+//! The calls by name that C has on a caller. Each performs a whole call and returns as `mc2_poll_call` does. The call is known when
+//! the library is compiled, so no code for other calls is executed. At an object of another kind it is an event too, with
+//! the reply `badcall`.
 
 ghost use Rattle.cells.specs.Exports.{content_of};
 ghost use Rattle.cell_callers.specs.CallReports.{ReportsCallOf};
@@ -20,7 +21,7 @@ use wake_list::SchedCall;
 fn call_by_name(caller: &mut Handle, call: KCall, answered: &mut Answered, looks: &mut u64) -> u32
     ensures { ReportsCallOf call (content_of caller.old) (answered.old, looks.old) result (content_of caller.new) (answered.new, looks.new) }
 {
-    // (by their values, as `at_content` says nothing of what is left behind a borrow that it hands on)
+    // (by value: the contract of `at_content` doesn't say which value a borrow has after `at_content` has passed it on)
     let (reported, said, looked) = at_content(
         caller,
         (call, *answered, *looks),
@@ -35,7 +36,7 @@ fn call_by_name(caller: &mut Handle, call: KCall, answered: &mut Answered, looks
     reported
 }
 
-/// It puts the thread at the end of a queue.
+/// Puts the thread at the end of a queue.
 #[unsafe(no_mangle)]
 pub extern "C" fn mc2_poll_enq(
     caller: &mut Handle,
@@ -53,7 +54,7 @@ pub extern "C" fn mc2_poll_enq(
     )
 }
 
-/// It takes the first thread of a queue.
+/// Takes the first thread of a queue.
 #[unsafe(no_mangle)]
 pub extern "C" fn mc2_poll_deq(caller: &mut Handle, answered: &mut Answered, looks: &mut u64) -> u32
     ensures { ReportsCallOf (Queue queue.Deq) (content_of caller.old) (answered.old, looks.old) result (content_of caller.new) (answered.new, looks.new) }
@@ -61,7 +62,7 @@ pub extern "C" fn mc2_poll_deq(caller: &mut Handle, answered: &mut Answered, loo
     call_by_name(caller, KCall::Queue(QueueCall::Deq), answered, looks)
 }
 
-/// It takes the thread out of a queue.
+/// Removes the thread from a queue.
 #[unsafe(no_mangle)]
 pub extern "C" fn mc2_poll_remove(
     caller: &mut Handle,
@@ -79,7 +80,7 @@ pub extern "C" fn mc2_poll_remove(
     )
 }
 
-/// It counts the threads of a queue.
+/// Counts the threads of a queue.
 #[unsafe(no_mangle)]
 pub extern "C" fn mc2_poll_len(caller: &mut Handle, answered: &mut Answered, looks: &mut u64) -> u32
     ensures { ReportsCallOf (Queue queue.Len) (content_of caller.old) (answered.old, looks.old) result (content_of caller.new) (answered.new, looks.new) }
@@ -87,7 +88,7 @@ pub extern "C" fn mc2_poll_len(caller: &mut Handle, answered: &mut Answered, loo
     call_by_name(caller, KCall::Queue(QueueCall::Len), answered, looks)
 }
 
-/// It gives the least free page of a pool to the owner.
+/// Allocates the lowest free page of a pool to the owner.
 #[unsafe(no_mangle)]
 pub extern "C" fn mc2_poll_alloc(
     caller: &mut Handle,
@@ -100,7 +101,7 @@ pub extern "C" fn mc2_poll_alloc(
     call_by_name(caller, KCall::Pool(PoolCall::Alloc(owner)), answered, looks)
 }
 
-/// It takes the page back from the owner.
+/// Frees a page of the owner.
 #[unsafe(no_mangle)]
 pub extern "C" fn mc2_poll_free(
     caller: &mut Handle,
@@ -119,7 +120,7 @@ pub extern "C" fn mc2_poll_free(
     )
 }
 
-/// It counts the free pages of a pool.
+/// Counts the free pages of a pool.
 #[unsafe(no_mangle)]
 pub extern "C" fn mc2_poll_left(
     caller: &mut Handle,
@@ -131,7 +132,7 @@ pub extern "C" fn mc2_poll_left(
     call_by_name(caller, KCall::Pool(PoolCall::Left), answered, looks)
 }
 
-/// It puts the byte at the end of a console.
+/// Puts the byte at the end of a console.
 #[unsafe(no_mangle)]
 pub extern "C" fn mc2_poll_put(
     caller: &mut Handle,
@@ -149,7 +150,7 @@ pub extern "C" fn mc2_poll_put(
     )
 }
 
-/// It takes the first byte of a console.
+/// Takes the first byte of a console.
 #[unsafe(no_mangle)]
 pub extern "C" fn mc2_poll_get(caller: &mut Handle, answered: &mut Answered, looks: &mut u64) -> u32
     ensures { ReportsCallOf (Console console.Get) (content_of caller.old) (answered.old, looks.old) result (content_of caller.new) (answered.new, looks.new) }
@@ -157,7 +158,7 @@ pub extern "C" fn mc2_poll_get(caller: &mut Handle, answered: &mut Answered, loo
     call_by_name(caller, KCall::Console(ConsoleCall::Get), answered, looks)
 }
 
-/// It counts the bytes of a console.
+/// Counts the bytes of a console.
 #[unsafe(no_mangle)]
 pub extern "C" fn mc2_poll_level(
     caller: &mut Handle,
@@ -169,7 +170,7 @@ pub extern "C" fn mc2_poll_level(
     call_by_name(caller, KCall::Console(ConsoleCall::Level), answered, looks)
 }
 
-/// It puts the thread at the end of the ready list.
+/// Puts the thread at the end of the ready list.
 #[unsafe(no_mangle)]
 pub extern "C" fn mc2_poll_ready(
     caller: &mut Handle,
@@ -187,7 +188,7 @@ pub extern "C" fn mc2_poll_ready(
     )
 }
 
-/// It takes the first ready thread.
+/// Takes the first ready thread.
 #[unsafe(no_mangle)]
 pub extern "C" fn mc2_poll_next(
     caller: &mut Handle,
@@ -199,7 +200,7 @@ pub extern "C" fn mc2_poll_next(
     call_by_name(caller, KCall::Sched(SchedCall::Next), answered, looks)
 }
 
-/// It puts the thread at the end of the channel.
+/// Puts the thread at the end of the channel.
 #[unsafe(no_mangle)]
 pub extern "C" fn mc2_poll_sleep(
     caller: &mut Handle,
@@ -218,7 +219,7 @@ pub extern "C" fn mc2_poll_sleep(
     )
 }
 
-/// It makes the first sleeper of the channel ready.
+/// Makes the first sleeper of the channel ready.
 #[unsafe(no_mangle)]
 pub extern "C" fn mc2_poll_wake(
     caller: &mut Handle,
@@ -236,7 +237,7 @@ pub extern "C" fn mc2_poll_wake(
     )
 }
 
-/// It makes all sleepers of the channel ready.
+/// Makes all sleepers of the channel ready.
 #[unsafe(no_mangle)]
 pub extern "C" fn mc2_poll_wakeall(
     caller: &mut Handle,

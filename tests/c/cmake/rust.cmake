@@ -1,5 +1,5 @@
-# mc2_rust(NAME SOURCE FILE [LIBRARIES judge|cells|heap ..]): builds a program in Rust, warnings being errors. Where rustc or a
-# library isn't there, each test that runs the program is skipped.
+# mc2_rust(NAME SOURCE FILE [LIBRARIES judge|cells|heap ..]): builds a program in Rust, with warnings as errors. Without rustc or
+# a library, the tests that run the program are skipped.
 function(mc2_rust NAME)
     cmake_parse_arguments(PARSE_ARGV 1 IT "" "SOURCE" "LIBRARIES")
     cmake_path(GET CMAKE_CURRENT_SOURCE_DIR FILENAME FOLDER)

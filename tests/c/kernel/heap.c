@@ -1,18 +1,21 @@
-// Checks include/mc2_heap.h, from which libcells.a takes its memory here. Memory is handed over 16 bytes at a time, and each
-// time a cell and its callers are opened: as long as there is too little that is refused, and all memory is free again. Then
-// threads take and give blocks at once. It prints how much memory a cell takes, by its object, its lock, its CPUs and its
-// events, and holds that to figures.h.
+// Checks include/mc2_heap.h, which is the heap of libcells.a here. Memory is added 16 bytes at a time, and each time a cell and its
+// callers are opened: as long as there is too little memory, opening fails and all memory is free again. Then it adds regions that
+// are wrong or overlap, and threads allocate and free blocks at the same time. It prints how much memory a cell takes, by its object,
+// lock, CPUs and events, and compares that with figures.h.
 //
 // The status is 0, or 1 at the first check that fails, which a line on standard error names.
 #include "figures.h"
 #include "mc2_cells.h"
 #include "mc2_heap.h"
 #include <pthread.h>
+#include <stdio.h>
+#include <stdlib.h>
+#include <string.h>
 
 enum { ROOM = 1 << 20, THREADS = 4, ROUNDS = 20000, HELD = 16 };
 
 static _Alignas(16) char room[ROOM];
-static size_t handed;
+static size_t added;
 
 #define CHECK(what) check(what, #what, __LINE__)
 
@@ -23,21 +26,21 @@ static void check(bool is_so, const char *what, int line) {
     }
 }
 
-static void hand_over(size_t size) {
-    CHECK(handed + size <= ROOM);
-    mc2_heap_add(room + handed, size);
-    handed += size;
+static void add(size_t size) {
+    CHECK(added + size <= ROOM);
+    CHECK(mc2_heap_add(room + added, size) == MC2_DONE);
+    added += size;
 }
 
-// All that was handed over is free, in one block.
+// All memory that was added is free, in one block.
 static void check_free(void) {
     size_t blocks, bytes = mc2_heap_available(&blocks);
-    CHECK(bytes == handed && blocks <= 1);
+    CHECK(bytes == added && blocks <= 1);
 }
 
 static size_t taken(void) {
     size_t blocks;
-    return handed - mc2_heap_available(&blocks);
+    return added - mc2_heap_available(&blocks);
 }
 
 static const struct mc2_object kinds[] = {
@@ -55,54 +58,49 @@ struct opened {
 };
 
 static uint32_t open_callers(struct opened *it) {
-    uint32_t told = MC2_DONE;
-    for (uint32_t cpu = it->cpus; cpu > 0 && told == MC2_DONE; cpu--)
-        told = mc2_caller_open(&it->cell, &it->callers[cpu - 1]);
-    return told;
+    uint32_t result = MC2_DONE;
+    for (uint32_t cpu = it->cpus; cpu > 0 && result == MC2_DONE; cpu--)
+        result = mc2_caller_open(&it->cell, &it->callers[cpu - 1]);
+    return result;
 }
 
-// Opens a cell and its callers. What it opened is to be freed, whatever it is told.
+// Opens a cell and its callers. Those that it opened are to be freed, whatever it returns.
 static uint32_t open_all(struct opened *it, const struct mc2_object *object, uint32_t cpus) {
     memset(it, 0, sizeof *it);
     it->cpus = cpus;
-    uint32_t told = mc2_cell_open_bare(&it->cell, object, cpus);
+    uint32_t result = mc2_cell_open_bare(&it->cell, object, cpus);
     it->of_cell = taken();
-    return told == MC2_DONE ? open_callers(it) : told;
+    return result == MC2_DONE ? open_callers(it) : result;
 }
 
 static void free_all(struct opened *it) {
-    for (uint32_t cpu = 0; cpu < it->cpus; cpu++)
-        if (it->callers[cpu].own)
-            CHECK(mc2_caller_free(&it->callers[cpu]) == MC2_DONE);
-    if (it->cell.own)
-        CHECK(mc2_cell_free_bare(&it->cell) == MC2_DONE);
+    mc2_cell_free(&it->cell, it->callers, it->cpus);
     check_free();
 }
 
-// How often the opening was refused until there was memory enough.
+// Returns how often opening failed before there was enough memory.
 static unsigned check_exhaustion(const struct mc2_object *object) {
     struct opened it;
     unsigned refused = 0;
-    handed = 0;
+    added = 0;
     memset(&mc2_heap, 0, sizeof mc2_heap);
     for (;; refused++) {
-        uint32_t told = open_all(&it, object, 2);
-        CHECK(told == MC2_DONE || told == MC2_NO_MEMORY);
-        if (told == MC2_DONE)
+        uint32_t result = open_all(&it, object, 2);
+        CHECK(result == MC2_DONE || result == MC2_NO_MEMORY);
+        if (result == MC2_DONE)
             break;
         free_all(&it);
-        hand_over(16);
+        add(16);
     }
     struct mc2_call call = mc2_call_of(object->kind == MC2_QUEUE ? MC2_LEN : MC2_PUT, 1, 1);
     struct mc2_reply reply;
-    uint64_t looks;
     size_t before = taken();
-    CHECK(mc2_cell_call(&it.callers[0], &call, &reply, &looks) == MC2_DONE && taken() == before);
+    CHECK(mc2_cell_call(&it.callers[0], &call, &reply) == MC2_DONE && taken() == before);
     free_all(&it);
     return refused;
 }
 
-// What the cell takes, and each of its callers.
+// Returns the bytes of the cell, and stores the bytes of each of its callers.
 static size_t memory_of(struct mc2_object object, uint32_t events, uint32_t cpus, size_t *of_caller) {
     struct opened it;
     object.events = events;
@@ -112,7 +110,7 @@ static size_t memory_of(struct mc2_object object, uint32_t events, uint32_t cpus
     return it.of_cell;
 }
 
-// What the object takes beside its cell.
+// The bytes of the object within its cell.
 static size_t object_bytes(const struct mc2_object *it) {
     switch (it->kind) {
     case MC2_QUEUE: return 9 * it->size;
@@ -122,7 +120,7 @@ static size_t object_bytes(const struct mc2_object *it) {
     }
 }
 
-// Without a log, then of each of 1,000 events more, and of each caller.
+// The cell without a log, then each of 1,000 more events, and each caller.
 static void check_memory(const char *name, const struct mc2_object *object) {
     static const size_t examples[] = {QUEUE_BYTES, POOL_BYTES, CONSOLE_BYTES};
     static const uint32_t cpus[] = {1, 2, MC2_MOST_CPUS};
@@ -147,13 +145,13 @@ static void check_cells(void) {
         struct mc2_object object = kinds[at / 2];
         object.lock = at % 2;
         unsigned refused = check_exhaustion(&object);
-        hand_over(ROOM - handed);
+        add(ROOM - added);
         check_memory(names[at / 2], &object);
         printf("; refused %u times\n", refused);
     }
 }
 
-// No block is so large, not even where its size, with its head, is above SIZE_MAX. What was to grow stays as it was.
+// No block is as large as this, also if its size with its header is above SIZE_MAX. A block that was to grow is unchanged.
 static void check_largest(void) {
     struct mc2_allocation old = rattle_alloc(16, 16);
     size_t before = taken();
@@ -180,11 +178,36 @@ static void check_blocks(void) {
     rattle_dealloc(one.at);
     rattle_dealloc(moved.at);
     check_free();
-    mc2_heap_add(room + 1, 15);
+    // an alignment above 16
+    CHECK(!rattle_alloc(100, 32).is_there && rattle_alloc(100, 32).at && !rattle_alloc(0, 17).is_there);
     check_free();
 }
 
-static void *take_and_give(void *number) {
+// Regions that are too small, reach the end of the address space, or overlap free memory change nothing.
+static void check_regions(void) {
+    static _Alignas(16) char other[160];
+    size_t blocks, bytes;
+    CHECK(mc2_heap_add(room + 1, 15) == MC2_BAD_PARAM && mc2_heap_add(other, 15) == MC2_BAD_PARAM);
+    CHECK(mc2_heap_add(other + 1, 30) == MC2_BAD_PARAM && mc2_heap_add(other, 0) == MC2_BAD_PARAM);
+    CHECK(mc2_heap_add(NULL, 4096) == MC2_BAD_PARAM && mc2_heap_add(other, SIZE_MAX) == MC2_BAD_PARAM);
+    for (size_t before = 1; before <= 64; before++)
+        CHECK(mc2_heap_add((char *)(UINTPTR_MAX - before + 1), before) == MC2_BAD_PARAM);
+    CHECK(mc2_heap_add(room, ROOM) == MC2_REFUSED && mc2_heap_add(room, 16) == MC2_REFUSED);
+    CHECK(mc2_heap_add(room + ROOM - 16, 16) == MC2_REFUSED && mc2_heap_add(room + 512, 64) == MC2_REFUSED);
+    check_free();
+    // two regions apart, the third touches both
+    CHECK(mc2_heap_add(other, 31) == MC2_DONE && mc2_heap_add(other + 100, 60) == MC2_DONE);
+    bytes = mc2_heap_available(&blocks);
+    CHECK(bytes == added + 16 + 48 && blocks >= 2);
+    CHECK(mc2_heap_add(other + 16, 112) == MC2_REFUSED && mc2_heap_add(other, 17) == MC2_REFUSED);
+    CHECK(mc2_heap_add(other + 16, 96) == MC2_DONE);
+    CHECK(mc2_heap_available(&blocks) == added + 160);
+    memset(&mc2_heap, 0, sizeof mc2_heap);
+    CHECK(mc2_heap_add(room, added) == MC2_DONE);
+    check_free();
+}
+
+static void *allocate_and_free(void *number) {
     struct mc2_allocation held[HELD] = {{false, NULL}};
     uint32_t random = *(unsigned *)number, wrong = 0;
     for (unsigned round = 0; round < ROUNDS; round++) {
@@ -208,7 +231,7 @@ static void check_threads(void) {
     unsigned numbers[THREADS];
     for (unsigned at = 0; at < THREADS; at++) {
         numbers[at] = at;
-        CHECK(pthread_create(&threads[at], NULL, take_and_give, &numbers[at]) == 0);
+        CHECK(pthread_create(&threads[at], NULL, allocate_and_free, &numbers[at]) == 0);
     }
     for (unsigned at = 0; at < THREADS; at++) {
         void *right;
@@ -220,6 +243,7 @@ static void check_threads(void) {
 int main(void) {
     check_cells();
     check_blocks();
+    check_regions();
     check_largest();
     check_threads();
     return 0;

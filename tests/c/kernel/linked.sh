@@ -1,11 +1,11 @@
 #!/bin/sh
-# Checks what a kernel links. It says what it saw, or what is wrong and ends with 1.
+# Checks what a kernel links. Prints what it found; or prints what is wrong, and ends with 1.
 #
-#   linked.sh asks FILE NAME..    the library or object asks for none but these functions
-#   linked.sh sections FILE       it has code, and neither storage of threads nor constructors or destructors
-#   linked.sh code FILE           no instruction names a register of SSE, or a fixed place below the stack's pointer. With an
-#                                 index register it may be above it, as where the end of an array on the stack is compared
-#   linked.sh size FILE MOST      the file has at most so many bytes
+#   linked.sh asks FILE NAME..    the library or object has no undefined symbols but these
+#   linked.sh sections FILE       it has code, and no thread-local storage, constructors or destructors
+#   linked.sh code FILE           no instruction uses an SSE register, or a fixed address below the stack pointer. With an index
+#                                 register the address may be above it, as where the end of an array on the stack is compared
+#   linked.sh size FILE MOST      the file has at most MOST bytes
 #   linked.sh page FIGURES PAGE   the page has each figure of the header, with commas
 set -u
 COMMAND=$1 FILE=$2
@@ -34,7 +34,7 @@ code)
     WRONG=$(echo "$CODE" | grep -E -m 1 '%[xyz]mm|-0x[0-9a-f]+\(%rsp\)')
     [ -z "$WRONG" ] || fail "$WRONG"
     LINES=$(echo "$CODE" | wc -l)
-    [ "$LINES" -gt 1000 ] || fail "it has just $LINES lines of code"
+    [ "$LINES" -gt 1000 ] || fail "it has only $LINES lines of code"
     echo "$LINES lines of code" ;;
 size)
     BYTES=$(wc -c <"$FILE")
@@ -42,7 +42,7 @@ size)
     echo "$BYTES bytes" ;;
 page)
     FIGURES=$(grep -o '= [0-9]*' "$FILE" | sed -e 's/= //' -e ':a' -e 's/\([0-9]\)\([0-9]\{3\}\)\($\|,\)/\1,\2\3/' -e ta)
-    [ "$(echo "$FIGURES" | wc -l)" -ge 15 ] || fail "it has just these figures:" $FIGURES
+    [ "$(echo "$FIGURES" | wc -l)" -ge 15 ] || fail "it has only these figures:" $FIGURES
     for FIGURE in $FIGURES; do
         grep -Eq "(^|[^0-9,])$FIGURE(\$|[^0-9,]|,(\$|[^0-9]))" "$1" || fail "$1 doesn't have $FIGURE"
     done ;;

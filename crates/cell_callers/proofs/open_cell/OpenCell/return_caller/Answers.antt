@@ -5,7 +5,7 @@ use Rattle.cell_callers.proofs.open_cell.OpenCell.return_caller.Goals.{else-self
 use Rattle.cell_callers.specs.declared.caller_state.CallerState.TheVariants as at
 use Rattle.cell_callers.proofs.open_cell.OpenCell.return_caller.Goals as goal
 
--- all are back, or another is next
+-- all callers are returned, or another is next
 past_all : (back cpus cpu : ℕ) → cpus ≤ back → (nat_lt back cpus && (cpu == back)) ≡ false
 past_all back cpus cpu all = grind (arith, nat_tests)
 
