@@ -314,7 +314,8 @@ static void say_whole_calls(void) {
 static size_t begin(void) {
     size_t blocks;
     serial_open();
-    mc2_heap_add(kernel_end, (size_t)(memory_end - kernel_end));
+    uint32_t result = mc2_heap_add(kernel_end, (size_t)(memory_end - kernel_end));
+    must(result == MC2_DONE, "adding memory", result);
     size_t free_before = mc2_heap_available(&blocks);
     open_notes(notes, sequences);
     stack_forget(0);
