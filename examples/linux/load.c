@@ -1,9 +1,9 @@
-// A module for Linux whose CPUs call cells. Each has a kthread, which waits for an object; now and then it interrupts the next
-// CPU, whose handler tries, in a hard interrupt, and leaves a tasklet behind, which tries in a softirq. What was done is noted by
-// mc2_note.h, in memory of each caller's own. The record is read from /proc/mc2_record, and a few words about it go to the
-// kernel's log. Nothing here is proved.
+// load.c - a Linux module whose CPUs call cells. Each CPU has a kthread that makes calls and waits for the lock. Every few calls it
+// interrupts the next CPU. The handler there tries a call in hard interrupt context and schedules a tasklet, which tries a call in
+// softirq context. Each caller notes its calls in its own memory (mc2_note.h). /proc/mc2_record has the record, and the kernel's log
+// a summary. Nothing here is proved.
 //
-// insmod does the whole load, and fails if something isn't as it has to be. No CPU may go or come meanwhile.
+// insmod runs the whole load. It fails if any result is wrong. No CPU may go offline or come online meanwhile.
 #define pr_fmt(text) "mc2_load: " text
 
 #include <linux/completion.h>
@@ -19,29 +19,29 @@
 #include "mc2_note.h"
 #include "queue_in_c.h"
 
-#define WORD(name, type, text) \
+#define PARAM(name, type, text) \
     module_param(name, type, 0444); \
     MODULE_PARM_DESC(name, text)
 
 static uint calls = 1000;
-WORD(calls, uint, "how many calls each kthread makes, 1 to 10,000");
+PARAM(calls, uint, "the number of calls that each kthread makes, 1 to 10,000");
 static char *lock = "cells";
-WORD(lock, charp, "cells; or a queue in C behind the kernel's own spinlock, or behind a lock that is wrong: spin, wrong");
+PARAM(lock, charp, "cells; spin: a queue in C behind the kernel's spinlock; wrong: the same queue behind no lock");
 static bool tries;
-WORD(tries, bool, "kthreads try again and again too, so that nobody is in line");
+PARAM(tries, bool, "kthreads retry mc2_try_acquire in place of waiting in line");
 static bool stays = true;
-WORD(stays, bool, "0: a kthread may lose its CPU while it is in line, and now and then gives it up while it has an object");
+PARAM(stays, bool, "0: kthreads may be preempted while they are in line, and sometimes yield while they hold the lock");
 static bool speed;
-WORD(speed, bool, "in place of the load measures stack, and the time of calls beside those behind the kernel's spinlock");
-WORD(mc2_refused, uint, "from 1 on: which block of memory is refused; then insmod fails, and loses none");
+PARAM(speed, bool, "measures stack, and the time of calls and of the queue in C behind the kernel's spinlock, in place of the load");
+PARAM(mc2_refused, uint, "n > 0: the n-th allocation fails; then insmod fails, and nothing leaks");
 
-// Each CPU has a number for each context in which it calls, and each is a CPU of its own for the cells.
+// Each CPU has a number for each context in which it makes calls. For the cells each number is a CPU, with its own callers.
 enum { TASK, HARD, SOFT, CONTEXTS };
 enum { MOST_LINUX_CPUS = MC2_MOST_CPUS / CONTEXTS, NUMBERS = MOST_LINUX_CPUS * CONTEXTS, OBJECTS = 4 };
 enum { CALLS_TO_INTERRUPT = 4, CALLS_TO_YIELD = 16, CALLS_TO_RESCHEDULE = 64, MOST_PAUSES = 64 };
 enum { THREADS = 18, SIZE = 16, BYTES = 32, CHANNELS = 4 };
 
-// A log has room for all calls of a load, if a log can have it.
+// begin() sets the capacity of the logs: the calls of all numbers, or 65,536.
 static struct mc2_object objects[OBJECTS] = {
     {"threads", MC2_QUEUE, MC2_TICKET, 0, SIZE, 0, NULL},
     {"pages", MC2_POOL, MC2_MCS, 0, SIZE, 0, NULL},
@@ -49,106 +49,113 @@ static struct mc2_object objects[OBJECTS] = {
     {"tasks", MC2_SCHED, MC2_MCS, 0, SIZE, CHANNELS, NULL},
 };
 
-// What a number has for itself, on a line of its own.
-static struct own {
+// The state of one number, in a cache line of its own.
+//   done, busy   calls that were made, and tries that found the lock taken
+//   full         calls that were left out, as there was no room for a note
+//   lost         how often the kthread lost its CPU during a call
+//   wrong        wrong results
+static struct state {
     u32 random, done, busy, full, lost, wrong;
     u64 took;
-} ____cacheline_aligned_in_smp own[NUMBERS];
+} ____cacheline_aligned_in_smp state[NUMBERS];
 
 static u32 cpus, numbers, object_count;
 static struct mc2_cell cells[OBJECTS];
 static struct mc2_caller callers[OBJECTS][NUMBERS];
 static struct tasklet_struct tasklets[MOST_LINUX_CPUS];
 static struct mc2_notes notes[NUMBERS];
-static struct mc2_sequence turns[OBJECTS];
-static struct mc2_sequence *const turns_of_each[OBJECTS] = {&turns[0], &turns[1], &turns[2], &turns[3]};
-static struct mc2_noted noted = {objects, turns_of_each, 0, notes, 0};
+static struct mc2_sequence sequences[OBJECTS];
+static struct mc2_sequence *const all_sequences[OBJECTS] = {&sequences[0], &sequences[1], &sequences[2], &sequences[3]};
+static struct mc2_noted noted = {objects, all_sequences, 0, notes, 0};
 static atomic_t ready;
 static DECLARE_COMPLETION(done);
 
-// ---- A call.
+// ---- Calls
 
-enum how { WAITS, TRIES, TRIES_ON };
+enum how { WAITS, TRIES, RETRIES };
 
 static u32 draw(u32 number, u32 below) {
-    own[number].random = own[number].random * 1664525u + 1013904223u;
-    return (own[number].random >> 8) % below;
+    state[number].random = state[number].random * 1664525u + 1013904223u;
+    return (state[number].random >> 8) % below;
 }
 
-// Some call on the object. A few are refused.
+// Returns a random call on the object. The object refuses a few of them.
 static struct mc2_call any_call(u32 object, u32 number) {
     static const u32 first[] = {MC2_ENQ, MC2_ALLOC, MC2_PUT, MC2_READY}, words[] = {4, 3, 3, 5};
-    u32 some = draw(number, way == CELLS ? words[object] : PLAIN_WORDS);
-    return mc2_call_of(first[object] + some, draw(number, THREADS), draw(number, THREADS));
+    u32 word = draw(number, way == CELLS ? words[object] : PLAIN_WORDS);
+    return mc2_call_of(first[object] + word, draw(number, THREADS), draw(number, THREADS));
 }
 
-// A call by a caller of the cell, and the turn that it was. A number has a turn for each event of a log that both have begun
-// together, so either both are full or none is.
-static bool call_cell(u32 object, u32 number, enum how how, struct mc2_step *step, u64 *looks, u32 *turn) {
+// Makes the step's call on a cell, and stores the reply in the step and the event's sequence number in *seq. The cell's log and the
+// sequence have the same capacity, so either both are full or neither.
+// Returns  false if a try found the lock taken: nothing was done.
+static bool call_cell(u32 object, u32 number, enum how how, struct mc2_step *step, u64 *looks, u32 *seq) {
     struct mc2_caller *caller = &callers[object][number];
     struct mc2_reply reply = {MC2_REPLY_WORDS, 0};
-    u32 got = how == WAITS ? mc2_acquire(caller, looks) : MC2_IRQ_OFF(mc2_poll_try_acquire(caller)), told;
-    for (; how == TRIES_ON && got == MC2_BUSY; got = MC2_IRQ_OFF(mc2_poll_try_acquire(caller)))
+    u32 result = how == WAITS ? mc2_acquire(caller) : mc2_try_acquire(caller);
+    for (; how == RETRIES && result == MC2_BUSY; result = mc2_try_acquire(caller))
         cpu_relax();
-    if (got == MC2_BUSY)
+    if (result == MC2_BUSY)
         return false;
-    own[number].wrong += got != MC2_ACQUIRED && got != MC2_ACQUIRED_BY_LOOK;
-    *turn = mc2_next_seq(&turns[object], &notes[number]);
-    if (!stays && how == WAITS && *turn % CALLS_TO_YIELD == 0)
+    state[number].wrong += result != MC2_DONE;
+    if (how == WAITS)
+        *looks = mc2_caller_looks(caller);
+    *seq = mc2_next_seq(&sequences[object], &notes[number]);
+    if (!stays && how == WAITS && *seq % CALLS_TO_YIELD == 0)
         yield();
-    told = MC2_IRQ_OFF(mc2_apply_step(caller, &step->call, &reply));
-    own[number].wrong += told != (*turn == MC2_NO_SEQ ? MC2_LOG_FULL : MC2_DONE);
-    own[number].wrong += mc2_release(caller) != MC2_RELEASED;
+    result = mc2_apply(caller, &step->call, &reply);
+    state[number].wrong += result != (*seq == MC2_NO_SEQ ? MC2_LOG_FULL : MC2_DONE);
+    state[number].wrong += mc2_release(caller) != MC2_DONE;
     *step = mc2_step_of(step->call, reply.word, reply.number);
     return true;
 }
 
-// The same of the queue in C.
-static bool call_plain(u32 number, enum how how, struct mc2_step *step, u32 *turn) {
+// The same on the queue in C.
+static bool call_plain(u32 number, enum how how, struct mc2_step *step, u32 *seq) {
     unsigned long flags = 0;
     if (way == SPIN && how == WAITS)
         raw_spin_lock_irqsave(&spinlock, flags);
     else if (way == SPIN && !raw_spin_trylock_irqsave(&spinlock, flags))
         return false;
-    *turn = mc2_next_seq(&turns[0], &notes[number]);
+    *seq = mc2_next_seq(&sequences[0], &notes[number]);
     *step = plain_answer(number, step->call);
     if (way == SPIN)
         raw_spin_unlock_irqrestore(&spinlock, flags);
     return true;
 }
 
-// Calls some object once, and notes that, when the object is given back. A try that finds another there does nothing. Nor does a
-// number whose memory is full: without a turn it would end the notes of that object for all others too.
+// Makes one call on a random object, and notes it after the release. A try that finds the lock taken does nothing. A number without
+// room for a note makes no call: if mc2_next_seq failed for it, nothing more would be noted of that object by any number.
 static void call(u32 number, enum how how) {
-    u32 object = draw(number, object_count), turn = MC2_NO_SEQ;
+    u32 object = draw(number, object_count), seq = MC2_NO_SEQ;
     struct mc2_step step = {any_call(object, number), MC2_REPLY_WORDS, 0};
     u64 looks = 1;
     bool is_done;
     if (!mc2_has_note_room(&notes[number])) {
-        own[number].full++;
+        state[number].full++;
         return;
     }
-    is_done = way == CELLS ? call_cell(object, number, how, &step, &looks, &turn) : call_plain(number, how, &step, &turn);
-    own[number].done += is_done;
-    own[number].busy += !is_done;
-    if (is_done && turn != MC2_NO_SEQ)
-        own[number].wrong += mc2_note(&notes[number], object, turn, looks, &step, 1, 1) != MC2_DONE;
+    is_done = way == CELLS ? call_cell(object, number, how, &step, &looks, &seq) : call_plain(number, how, &step, &seq);
+    state[number].done += is_done;
+    state[number].busy += !is_done;
+    if (is_done && seq != MC2_NO_SEQ)
+        state[number].wrong += mc2_note(&notes[number], object, seq, looks, &step, 1, 1) != MC2_DONE;
 }
 
 #include "measured.h"
 
-// ---- Who calls.
+// ---- Kthreads and handlers
 
 static u32 number_of(u32 context, u32 cpu) { return context * cpus + cpu; }
 
-static void call_softly(struct tasklet_struct *tasklet) {
+static void call_in_softirq(struct tasklet_struct *tasklet) {
     u32 cpu = smp_processor_id(), number = number_of(SOFT, cpu);
-    own[number].wrong += tasklet != &tasklets[cpu] || !in_serving_softirq() || in_hardirq();
+    state[number].wrong += tasklet != &tasklets[cpu] || !in_serving_softirq() || in_hardirq();
     call(number, TRIES);
 }
 
-// (A CPU that was idle may do this outside of an interrupt.)
-static void call_hard(void *none) {
+// (An idle CPU may run this outside of an interrupt.)
+static void call_in_interrupt(void *unused) {
     u32 cpu = smp_processor_id();
     if (!in_hardirq())
         return;
@@ -156,23 +163,23 @@ static void call_hard(void *none) {
     tasklet_schedule(&tasklets[cpu]);
 }
 
-static void call_nothing(void *none) {}
+static void do_nothing(void *unused) {}
 
-// Nobody takes the CPU from who has an object or is in line for it; or else it counts how often that was done.
-static void call_staying(u32 number) {
+// Makes one call with preemption disabled. With stays=0 it counts how often the kthread lost its CPU during the call.
+static void call_in_task(u32 number) {
     unsigned long lost = current->nivcsw + current->nvcsw;
     if (stays)
         preempt_disable();
-    call(number, tries ? TRIES_ON : WAITS);
-    own[number].lost += current->nivcsw + current->nvcsw - lost;
+    call(number, tries ? RETRIES : WAITS);
+    state[number].lost += current->nivcsw + current->nvcsw - lost;
     if (stays)
         preempt_enable();
 }
 
-// What a kthread does between two calls.
+// A kthread does this between two calls.
 static void pause_and_interrupt(u32 number, u32 at) {
     if (!speed && cpus > 1 && at % CALLS_TO_INTERRUPT == 0)
-        own[number].wrong += smp_call_function_single((number + 1) % cpus, call_hard, NULL, 0) != 0;
+        state[number].wrong += smp_call_function_single((number + 1) % cpus, call_in_interrupt, NULL, 0) != 0;
     for (u32 pauses = speed ? 0 : draw(number, MOST_PAUSES); pauses > 0; pauses--)
         cpu_relax();
     if (at % CALLS_TO_RESCHEDULE == 0)
@@ -186,25 +193,25 @@ static void wait_for_all(void) {
 }
 
 static int work(void *at) {
-    u32 number = (struct own *)at - own;
+    u32 number = (struct state *)at - state;
     wait_for_all();
-    own[number].took = now();
+    state[number].took = now();
     for (u32 call = 0; call < calls; call++) {
         if (speed)
             call_timed(number, call % 2 == 0);
         else
-            call_staying(number);
+            call_in_task(number);
         pause_and_interrupt(number, call);
     }
-    own[number].took = now() - own[number].took;
+    state[number].took = now() - state[number].took;
     kthread_complete_and_exit(&done, 0);
 }
 
-// Has a kthread of each CPU work, and waits until all are done.
+// Runs a kthread on each CPU, and waits until all of them are done.
 static int run_all(void) {
     struct task_struct *tasks[MOST_LINUX_CPUS];
     u32 made = 0;
-    while (made < cpus && !IS_ERR(tasks[made] = kthread_create_on_cpu(work, &own[made], made, "mc2/%u")))
+    while (made < cpus && !IS_ERR(tasks[made] = kthread_create_on_cpu(work, &state[made], made, "mc2/%u")))
         made++;
     atomic_set(&ready, 0);
     for (u32 cpu = 0; cpu < made; cpu++) {
@@ -218,15 +225,15 @@ static int run_all(void) {
     return made == cpus ? 0 : PTR_ERR(tasks[made]);
 }
 
-// Waits for the handlers: an earlier interrupt comes before a later one, and each leaves its tasklet behind.
+// Waits for the handlers. A CPU handles these interrupts in order, so that each earlier one has scheduled its tasklet by then.
 static void end_interrupts(void) {
     for (u32 cpu = 0; cpu < cpus; cpu++) {
-        smp_call_function_single(cpu, call_nothing, NULL, 1);
+        smp_call_function_single(cpu, do_nothing, NULL, 1);
         tasklet_kill(&tasklets[cpu]);
     }
 }
 
-// ---- Before and after the load.
+// ---- Before and after the load
 
 static int open_notes(void) {
     size_t pieces = 2 * (size_t)calls + MC2_NOTE_PIECES;
@@ -234,10 +241,10 @@ static int open_notes(void) {
         struct mc2_allocation memory = rattle_alloc(pieces * sizeof(union mc2_note_piece), 0);
         if (!memory.is_there || mc2_open_notes(&notes[number], memory.at, pieces) != MC2_DONE)
             return -ENOMEM;
-        own[number].random = number + 1;
+        state[number].random = number + 1;
     }
     for (u32 object = 0; object < object_count; object++)
-        if (mc2_open_sequence(&turns[object], objects[object].events) != MC2_DONE)
+        if (mc2_open_sequence(&sequences[object], objects[object].events) != MC2_DONE)
             return -EINVAL;
     return 0;
 }
@@ -251,37 +258,38 @@ static void free_notes(void) {
 
 static int open_cells(void) {
     for (u32 object = 0; object < object_count && way == CELLS; object++) {
-        u32 told = mc2_cell_open(&cells[object], &objects[object], callers[object], numbers);
-        if (told != MC2_DONE)
-            return told == MC2_NO_MEMORY ? -ENOMEM : -EINVAL;
+        u32 result = mc2_cell_open(&cells[object], &objects[object], callers[object], numbers);
+        if (result != MC2_DONE)
+            return result == MC2_NO_MEMORY ? -ENOMEM : -EINVAL;
     }
     return 0;
 }
 
-// Closes the cells, each of whose logs ends with the last turn, and tells what went wrong till then.
+// Closes the cells, and returns the number of wrong results up to then. Each log has to have as many events as the sequence.
 static u32 close_cells(void) {
-    struct mc2_logged_step told;
+    struct mc2_logged_step step;
     u32 wrong = 0;
     for (u32 object = 0; object < object_count && way == CELLS; object++) {
+        u32 events = sequences[object].next;
         wrong += mc2_cell_close(&cells[object], callers[object], numbers) != MC2_DONE;
-        wrong += turns[object].next > 0 && mc2_handle_read_step(&cells[object], turns[object].next - 1, 0, &told) != MC2_DONE;
-        wrong += mc2_handle_read_step(&cells[object], turns[object].next, 0, &told) != MC2_NOT_FOUND;
+        wrong += events > 0 && mc2_cell_read_step(&cells[object], events - 1, 0, &step) != MC2_DONE;
+        wrong += mc2_cell_read_step(&cells[object], events, 0, &step) != MC2_NOT_FOUND;
     }
     for (u32 number = 0; number < numbers; number++)
-        wrong += own[number].wrong;
+        wrong += state[number].wrong;
     return wrong;
 }
 
 static void say_calls(u32 wrong) {
     u32 calls_in[CONTEXTS] = {0}, busy = 0, full = 0, lost = 0;
     for (u32 number = 0; number < numbers; number++) {
-        calls_in[number / cpus] += own[number].done;
-        busy += own[number].busy;
-        full += own[number].full;
-        lost += own[number].lost;
+        calls_in[number / cpus] += state[number].done;
+        busy += state[number].busy;
+        full += state[number].full;
+        lost += state[number].lost;
     }
     pr_notice("calls of kthreads: %u, of hard interrupts: %u, of softirqs: %u\n", calls_in[TASK], calls_in[HARD], calls_in[SOFT]);
-    pr_notice("%u busy, %u without room, %u lost their CPU, %u answers that can't be\n", busy, full, lost, wrong);
+    pr_notice("%u busy, %u without room, %u lost their CPU, %u wrong results\n", busy, full, lost, wrong);
 }
 
 static int load(void) {
@@ -297,17 +305,17 @@ static int load(void) {
     return failure ?: wrong ? -EIO : 0;
 }
 
-// ---- The module.
+// ---- The module
 
 static bool take_piece(void *to, const char *piece, size_t length) { return seq_write(to, piece, length) == 0; }
 
-static int show_record(struct seq_file *file, void *none) {
-    int told = mc2_write_notes(&noted, take_piece, file);
-    return told == MC2_DONE || seq_has_overflowed(file) ? 0 : -EIO;
+static int show_record(struct seq_file *file, void *unused) {
+    int result = mc2_write_notes(&noted, take_piece, file);
+    return result == MC2_DONE || seq_has_overflowed(file) ? 0 : -EIO;
 }
 
-// What is wrong with the words, or NULL.
-static const char *wrong_words(void) {
+// Returns an error message if a parameter is out of range, or NULL.
+static const char *check_parameters(void) {
     if (calls < 1 || calls > MC2_MOST_ENTRIES)
         return "calls has to be 1 to 10,000";
     if (strcmp(lock, "cells") && strcmp(lock, "spin") && strcmp(lock, "wrong"))
@@ -326,16 +334,16 @@ static void begin(void) {
     for (u32 object = 0; object < OBJECTS; object++)
         objects[object].events = min_t(u32, MC2_MOST_EVENTS, numbers * calls);
     for (u32 cpu = 0; cpu < cpus; cpu++)
-        tasklet_setup(&tasklets[cpu], call_softly);
+        tasklet_setup(&tasklets[cpu], call_in_softirq);
 }
 
 static int __init load_init(void) {
-    const char *wrong;
+    const char *error;
     int failure;
     cpus = num_online_cpus();
-    wrong = wrong_words();
-    if (wrong) {
-        pr_err("%s\n", wrong);
+    error = check_parameters();
+    if (error) {
+        pr_err("%s\n", error);
         return -EINVAL;
     }
     begin();
@@ -344,7 +352,7 @@ static int __init load_init(void) {
         failure = proc_create_single("mc2_record", 0400, NULL, show_record) ? 0 : -ENOMEM;
     if (failure) {
         free_notes();
-        pr_notice("failed: %d; %ld blocks not given back\n", failure, atomic_long_read(&mc2_blocks));
+        pr_notice("failed: %d; %ld blocks not freed\n", failure, atomic_long_read(&mc2_blocks));
     }
     return failure;
 }
@@ -353,7 +361,7 @@ static void __exit load_exit(void) {
     if (!speed)
         remove_proc_entry("mc2_record", NULL);
     free_notes();
-    pr_notice("unloaded; %ld blocks not given back\n", atomic_long_read(&mc2_blocks));
+    pr_notice("unloaded; %ld blocks not freed\n", atomic_long_read(&mc2_blocks));
 }
 
 module_init(load_init);

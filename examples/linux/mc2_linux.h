@@ -1,36 +1,38 @@
-// Cells in a module of Linux: what it defines before it includes mc2_cells.h, and its memory.
+// mc2_linux.h - includes mc2_cells.h as a Linux module needs it. memory.c has the allocator.
 #ifndef MC2_LINUX_H
 #define MC2_LINUX_H
 
 #include <linux/irqflags.h>
 #include <linux/kernel.h>
 
-// No C library, so no naps either: a caller that waits has preemption off.
+// There is no C library, and no MC2_USLEEP: a caller that waits has preemption disabled, so it must not sleep.
 #define MC2_FREESTANDING
 #define MC2_TYPES "linux/types.h"
 
-// No interrupt comes within a step of the library, and so no handler and no softirq.
+// Disables interrupts around each call of the library, so that no handler and no softirq runs within one.
 #define MC2_IRQ_OFF(call) \
     ({ \
-        unsigned long mc2_flags; \
-        uint32_t mc2_report; \
-        local_irq_save(mc2_flags); \
-        mc2_report = (call); \
-        local_irq_restore(mc2_flags); \
-        mc2_report; \
+        unsigned long irq_flags; \
+        uint32_t irq_result; \
+        local_irq_save(irq_flags); \
+        irq_result = (call); \
+        local_irq_restore(irq_flags); \
+        irq_result; \
     })
 
-// What opens, closes and frees calls the kernel's heap, which may sleep.
+// Opening, closing and freeing call the kernel's allocator, which may sleep: interrupts stay enabled.
 #define MC2_ALLOCATING(call) (call)
 
 #include "mc2_cells.h"
 
-// A block of memory, and whether it is there; and one is given back, or NULL.
+// Allocates a block of `size` bytes, or of `align` bytes if `size` is 0, aligned to 16 bytes. The pointer is never NULL; `is_there`
+// is false if there is no memory. rattle_dealloc frees a block; NULL is allowed.
+// Context  May sleep. Interrupts are enabled.
 struct mc2_allocation { bool is_there; void *at; };
 struct mc2_allocation rattle_alloc(size_t size, size_t align);
 void rattle_dealloc(void *at);
 
-// How many blocks were taken and not given back; and from 1 on, which is refused, counted down.
+// The number of blocks that are allocated. If mc2_refused is n > 0, the n-th allocation from now fails.
 extern atomic_long_t mc2_blocks;
 extern uint mc2_refused;
 

@@ -1,4 +1,4 @@
-// The memory of libcells.a in Linux. Openings ask for it, by who may sleep, and closing gives it back.
+// memory.c - the allocator of libcells.a in Linux. Only opening, reopening, closing and freeing call it, in contexts that may sleep.
 #include <linux/atomic.h>
 #include <linux/log2.h>
 #include <linux/mm.h>
@@ -10,8 +10,7 @@ enum { ALIGNED = 16 };
 atomic_long_t mc2_blocks;
 uint mc2_refused;
 
-// Up to a page kmalloc aligns blocks whose size is a power of two to that size, and kvmalloc aligns longer ones to more. The second
-// word is never NULL.
+// kmalloc aligns a block whose size is a power of two, up to a page, to its size. kvmalloc aligns larger blocks to more than 16.
 struct mc2_allocation rattle_alloc(size_t size, size_t align) {
     size_t wanted = max_t(size_t, size > 0 ? size : align, ALIGNED);
     bool is_refused = mc2_refused > 0 && --mc2_refused == 0;

@@ -1,14 +1,14 @@
 /* From power-on to C, on each CPU, and from an interrupt to C.
 
-   qemu's -kernel finds the note of section .note.Xen, and starts the first CPU at `start`, in 32-bit mode without paging (PVH). The
-   others start at `ap_start` in 16-bit mode, which machine.c has copied to 0x8000. All come to `to_long`, which turns paging on,
-   gives the CPU its number and its stack, and goes to cpu_main(number) of main.c. */
+   qemu's -kernel finds the note in section .note.Xen, and starts the first CPU at `start`, in 32-bit mode without paging (PVH). The
+   other CPUs start in 16-bit mode at `ap_start`, which machine.c copies to 0x8000. All CPUs reach `to_long`, which enables paging,
+   assigns the CPU its number and its stack, and jumps to cpu_main(number) of main.c. */
 
 #define STACK 65536
 
     .section .note.Xen, "a", @note
     .balign 4
-    .long 4, 8, 18          /* a name of 4 bytes, a description of 8; 18 is where to start */
+    .long 4, 8, 18          /* the sizes of name and description; type 18 is the entry point */
     .asciz "Xen"
     .quad start
 
@@ -18,7 +18,7 @@
 start:
     cli
     cld
-    /* The first 4 GiB by pages of 2 MiB, each present and writable. */
+    /* Maps the first 4 GiB by pages of 2 MiB, each present and writable. */
     mov $pd, %edi
     mov $0x83, %eax
     mov $2048, %ecx
@@ -28,7 +28,7 @@ start:
     add $0x200000, %eax
     dec %ecx
     jnz 1b
-    orl $0x18, pd + (0xfee00000 >> 21) * 8      /* the page of the local APIC isn't cached */
+    orl $0x18, pd + (0xfee00000 >> 21) * 8      /* the local APIC's page is uncached */
     lgdt gdtr
     ljmp $0x08, $to_long
 
@@ -61,17 +61,17 @@ to_long:
 #ifdef NO_SSE
     or $(1 << 5), %eax                          /* PAE */
 #else
-    or $(1 << 5 | 1 << 9 | 1 << 10), %eax       /* PAE; for SSE OSFXSR and OSXMMEXCPT */
+    or $(1 << 5 | 1 << 9 | 1 << 10), %eax       /* PAE; OSFXSR and OSXMMEXCPT for SSE */
 #endif
     mov %eax, %cr4
     mov $0xc0000080, %ecx
     rdmsr
-    or $0x100, %eax                             /* EFER.LME: 64 bits */
+    or $0x100, %eax                             /* EFER.LME: long mode */
     wrmsr
     mov %cr0, %eax
-    and $~(1 << 2 | 1 << 3), %eax               /* neither EM nor TS */
+    and $~(1 << 2 | 1 << 3), %eax               /* clears EM and TS */
 #ifdef NO_SSE
-    or $(1 << 2), %eax                          /* EM: each instruction of SSE ends in an exception */
+    or $(1 << 2), %eax                          /* EM: every SSE instruction raises an exception */
 #endif
     or $(1 << 31 | 1 << 16 | 1 << 5 | 1 << 1 | 1), %eax
     mov %eax, %cr0
@@ -80,7 +80,7 @@ to_long:
     .code64
 long_mode:
     mov $1, %edi
-    lock xadd %edi, cpus_up                     /* the CPU that boots is 0 */
+    lock xadd %edi, cpus_up                     /* the boot CPU is 0 */
     cmp $CPUS, %edi
     jae 2f
     lea 1(%rdi), %rax
@@ -126,7 +126,7 @@ pd:
 stacks:
     .space CPUS * STACK
 
-/* The entry of each vector pushes an error code, if the CPU has pushed none, and the vector. */
+/* Each vector's entry pushes an error code, unless the CPU has pushed one, and then the vector. */
     .section .text
     .globl vectors
 vectors:
@@ -141,8 +141,8 @@ vectors:
     .set vector, vector + 1
     .endr
 
-/* Keeps all registers of the interrupted code. Those of SSE are among them, as the handler calls the library too, whose code uses
-   them unless tools/develop/kernel_library has built it. */
+/* Saves all registers, calls interrupt(), and restores them. The SSE registers are saved too: the handler calls the library, which
+   uses them unless it was built by tools/develop/kernel_library. */
 interrupted:
     push %rax
     push %rcx

@@ -1,4 +1,4 @@
-/* boot.S lies and is linked at 1 MiB. All else lies behind it and is linked at -2 GiB plus where it lies, as kernels are. */
+/* boot.S is loaded and linked at 1 MiB. The rest is loaded after it, and linked at -2 GiB plus its load address, as kernels are. */
 ENTRY(start)
 PHDRS { note PT_NOTE; boot PT_LOAD; kernel PT_LOAD; }
 base = 0xffffffff80000000;

@@ -1,4 +1,4 @@
-// The machine under the kernel: x86-64 as qemu has it.
+// machine.c - see machine.h.
 #include "machine.h"
 
 static inline void out8(uint16_t port, uint8_t value) { __asm__ volatile("outb %0, %1" ::"a"(value), "Nd"(port)); }
@@ -12,7 +12,7 @@ static inline uint8_t in8(uint16_t port) {
 enum { CONSOLE = 0xe9, EXIT = 0xf4, COM1 = 0x3f8 };
 
 _Noreturn void leave(uint32_t status) {
-    out8(EXIT, (uint8_t)(status >> 1));         // isa-debug-exit: qemu ends with the value twice and 1
+    out8(EXIT, (uint8_t)(status >> 1));         // isa-debug-exit: qemu exits with status 2 * value + 1
     for (;;)
         __asm__ volatile("cli; hlt");
 }
@@ -54,7 +54,7 @@ void serial_open(void) {
 bool serial_take(void *to, const char *text, size_t length) {
     (void)to;
     for (size_t at = 0; at < length; at++) {
-        while (at % 16 == 0 && !(in8(COM1 + 5) & 0x20))     // its queue of 16 bytes is empty
+        while (at % 16 == 0 && !(in8(COM1 + 5) & 0x20))     // until the FIFO of 16 bytes is empty
             ;
         out8(COM1, (uint8_t)text[at]);
     }
@@ -82,7 +82,7 @@ void *memset(void *to, int byte, size_t size) {
     return to;
 }
 
-// The local APIC starts other CPUs, and has this CPU's timer.
+// The local APIC starts the other CPUs and has this CPU's timer.
 static volatile uint32_t *const apic = (volatile uint32_t *)0xfee00000;
 enum { APIC_ID = 0x20 / 4, APIC_DONE = 0xb0 / 4, APIC_SPURIOUS = 0xf0 / 4, APIC_COMMAND = 0x300 / 4, APIC_TIMER = 0x320 / 4,
        APIC_COUNT = 0x380 / 4, APIC_DIVIDE = 0x3e0 / 4 };
@@ -125,7 +125,7 @@ extern uint8_t vectors[];
 
 void interrupts_open(uint32_t cpu, bool has_stack) {
     cpu_of[apic[APIC_ID] >> 24] = cpu;
-    out8(0x21, 0xff);                           // nothing comes from the old controllers
+    out8(0x21, 0xff);                           // masks the legacy interrupt controllers
     out8(0xa1, 0xff);
     for (uint32_t vector = 0; cpu == 0 && vector < 256; vector++) {
         uintptr_t at = (uintptr_t)&vectors[16 * vector];
@@ -144,7 +144,7 @@ void interrupts_open(uint32_t cpu, bool has_stack) {
 
 void timer_start(uint32_t count) {
     apic[APIC_DIVIDE] = 0xb;
-    apic[APIC_TIMER] = 1 << 17 | TIMER;         // again and again
+    apic[APIC_TIMER] = 1 << 17 | TIMER;         // periodic
     apic[APIC_COUNT] = count;
 }
 

@@ -1,4 +1,4 @@
-"""What the checks of kernels hold: the figures of tests/c/kernel/figures.h, and what linked.sh beside it says of a library."""
+"""For the checks of kernels: the figures of tests/c/kernel/figures.h, and the checks of a library by linked.sh of that folder."""
 import re
 
 from common import ROOT, Stop, last_line, run
