@@ -1,8 +1,7 @@
 //! A hold whose object stays in its slot, since nobody asks it anything: the lock guards something else.
 
 ghost use Rattle.event_log.proofs.Props.{legal_props};
-ghost use Rattle.word_rule.specs.{declared.lock_kind.Stage.TheVariants.Ticket, declared.lock_kind.TicketStage.TheVariants.Served};
-ghost use Rattle.word_rule.specs.Keeping.{IsKeeping};
+ghost use Rattle.word_rule.specs.{declared.lock_kind.Stage.TheVariants.Ticket, declared.lock_kind.TicketStage.TheVariants.Served, Keeping.IsKeeping};
 
 use event_log::SeqObject;
 use word_rule::Outside;

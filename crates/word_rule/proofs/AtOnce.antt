@@ -1,5 +1,5 @@
--- What a step that is more than one turn makes of a cell's table, whichever lock it has: two turns, which report one after the
--- other, and an end of a hold after which the caller stands elsewhere than the turn says, at a lock that is erased the turn's.
+-- Operations on a cell's table that aren't a single turn, at any lock: two turns, each with its own report; and the end of a hold
+-- after which the caller is at another stage than the turn leaves it, where `erase` makes both locks equal.
 use Rattle.std.proofs.Common.{◌≡◌, ◌≢◌, ℕ, ◌<◌, Bool, true, false, true≢false, List, [], ◌∷◌, ◌++◌, drop, length, set, refl, sym, ap, ◌∙◌, subst, arith, append_assoc, Option, Some}
 use mathlib.Core.Option.{some}
 use lib.ListN.{get_elem?}
@@ -9,14 +9,14 @@ use Rattle.event_log.specs.{declared.object.SeqObject.Ghosts, declared.event.Eve
 use Rattle.event_log.proofs.Beginnings.{begins_rest}
 use Rattle.sound_run.specs.declared.lock_kind.LockKind.{LockKind}
 use Rattle.word_rule.specs.{declared.machine.step_done.StepDone.StepDone, declared.lock_kind.Stage.Stage, declared.lock_kind.Stage.TheVariants.Idle, declared.view.TraceStep.TraceStep, Cell.{Cell, Lawful, stored}, Line.moved, Mcs.State.untried, LockDefinition.{IsTied, LockDefinition, LockState}, Locks.{Lock, definition_of, erase, holding, lock_of, served, turn}, LockRuns.{Extends, HasRun, IsTraceStep}, OneHold.{leaving, silently}, StepKinds.ends_hold, Rule.Announced.{Gets, Goes, IsElse, Lacks, Learns, Returns}, Rule.AtOnce.{two_turns, unready}, Rule.Callers.AddedBy, Rule.Definition.GoesOn, Rule.CellInvariant.{CellInvariant, IsMade, SeatInvariant, SeatView, Table}, Rule.LockStates.IsLockOf, Rule.Seats.{Seat, moved_on, settled}}
-use Rattle.word_rule.proofs.{CallerSteps.Makes, Known.{goes, learned_by, returns, same_cell}, Lists.grows_self, Moves.stays_put, RunLists.extends_by, LockInterface.is_trying, LockLaws.{held_untried, one_holds}, RuleStates.{StandsIn, rule_of, turned_lock}, Runs.{does_so, goes_leaving, made_push, run_push, silent_push}, ShownLocks.tied_lock, Stays.{Adds, Restages, Runs, changed, own_events, seats_move}}
+use Rattle.word_rule.proofs.{CallerSteps.Makes, Known.{goes, learned_by, returns, same_cell}, Lists.grows_self, Moves.stays_put, RunLists.extends_by, LockInterface.is_trying, LockLaws.{held_untried, one_holds}, RuleStates.{StandsIn, rule_of, turned_lock}, Runs.{does_so, goes_leaving, made_push, run_push, silent_push}, ShownLocks.tied_lock, Stays.{Restages, changed, own_events, seats_move}}
 
 module _ (kind : LockKind) (m : LockState (definition_of kind).Extra) (p : ℕ) where
-  -- one that is idle has prepared no try
+  -- an idle CPU has prepared no try
   pub unready_idle : m.line.stage p ≡ Idle → unready (lock_of kind m) p ≡ lock_of kind m
   unready_idle is = ap (λ f. lock_of kind (record { line = record { cpus = m.line.cpus; out = m.line.out; stage = f }; extra = m.extra })) (ap (λ q. moved m.line.stage p (untried q)) is ∙ sym (stays_put m.line.stage p Idle is))
 
--- two turns, by what each does
+-- two turns, given what each does
 pub turns_twice : (l m n : Lock) (p : ℕ) (a b : StepDone) → turn l p ≡ (m, a) → turn m p ≡ (n, b) → two_turns l p ≡ (n, a ∷ b ∷ [])
 turns_twice l m n p a b one two = ap (λ (z : Lock × StepDone). ((turn z.0 p).0, z.1 ∷ (turn z.0 p).1 ∷ [])) one ∙ ap (λ (z : Lock × StepDone). (z.0, a ∷ z.1 ∷ [])) two
 
@@ -24,7 +24,7 @@ module _ {O P C R : Type 0} (meaning : Ghosts O P C R) (kind : LockKind) (h : Ce
   abbrev Rule : Table O P C R → Type 0
   Rule = CellInvariant meaning kind h
 
-  -- a lock that is erased one that the run makes, and goes by the same number, is made by it too
+  -- the run makes both of two locks that `erase` makes equal and that have the same number
   pub made_alike : (l l' : Lock) (run : List (TraceStep (Event O P C R))) → erase l' ≡ erase l → served l' ≡ served l → IsMade h l run → IsMade h l' run
   made_alike l l' run same number made = record { erased = λ first. same ∙ made.erased first; counts = number ∙ made.counts }
 
@@ -32,12 +32,12 @@ module _ {O P C R : Type 0} (meaning : Ghosts O P C R) (kind : LockKind) (h : Ce
     abbrev ran_by : List StepDone → List (TraceStep (Event O P C R))
     ran_by done = r.state.run ++ silently me.0.main.cpu done
 
-    -- the seat between two steps, the first of which leaves its caller there
+    -- the seat between two steps: the first leaves its caller at this stage
     abbrev pub between : Stage → StepDone → Seat O P C R
     between q a = (moved_on me.0 q r.state.committed (ran_by (a ∷ [])), me.1)
 
     module _ (q : Stage) (a b : StepDone) (once : HasRun h r.state.committed (ran_by (a ∷ []))) (twice : HasRun h r.state.committed (ran_by (a ∷ b ∷ []))) where
-      -- what the first reports
+      -- the report of the first step
       pub first_goes : Goes meaning q (a ∷ []) me (between q a)
       first_goes = goes meaning kind h s r id me acts mine q (a ∷ []) once
 
@@ -52,7 +52,7 @@ module _ {O P C R : Type 0} (meaning : Ghosts O P C R) (kind : LockKind) (h : Ce
             ran = all.ran;
           }
 
-      -- and what the second does, which brings the object, or doesn't
+      -- the report of the second step, which gets the object, or doesn't
       pub second_gets : (q' : Stage) → Gets meaning q' (b ∷ []) (between q a) (settled me.0 q' r.state.committed (ran_by (a ∷ b ∷ [])), (0, Some (stored meaning h r.state.committed)) ∷ me.1)
       second_gets q' = record {
         object = stored meaning h r.state.committed;
@@ -65,21 +65,23 @@ module _ {O P C R : Type 0} (meaning : Ghosts O P C R) (kind : LockKind) (h : Ce
       pub second_goes : (q' : Stage) → Goes meaning q' (b ∷ []) (between q a) (moved_on me.0 q' r.state.committed (ran_by (a ∷ b ∷ [])), me.1)
       second_goes q' = record { log = r.state.committed; run = ran_by (a ∷ b ∷ []); seat = refl; learns = second_learns; still = λ _. refl }
 
-    -- it lacks as much between them, and another's number is another's
+    -- between the steps the caller lacks the same numbers, and another's number is another's
     pub lacks_between : (q : Stage) (a : StepDone) → Lacks me.0 → Lacks (between q a).0
     lacks_between q a lacking g all = lacking g record { reported = all.reported; each = all.each }
 
     pub else_between : (q : Stage) (a : StepDone) (x : ℕ) → IsElse me.0 x → IsElse (between q a).0 x
     else_between q a x other = record { other = other.other; inside = other.inside }
 
-  -- one turn of a lock that is erased the one before
-  pub turned_alike : (s : Table O P C R) (r : Rule s) (p : ℕ) (l l' : Lock) (step : StepDone) → p < h.numbers → erase l ≡ erase r.state.lock → served l ≡ served r.state.lock → is_trying (l.line.stage p) ≡ false → turn l p ≡ (l', step) → HasRun h r.state.committed (r.state.run ++ silently p (step ∷ []))
+  -- one turn of a lock that `erase` makes equal to the current one
+  pub turned_alike : (s : Table O P C R) (r : Rule s) (p : ℕ) (l l' : Lock) (step : StepDone) → p < h.numbers
+      → erase l ≡ erase r.state.lock → served l ≡ served r.state.lock → is_trying (l.line.stage p) ≡ false → turn l p ≡ (l', step) → HasRun h r.state.committed (r.state.run ++ silently p (step ∷ []))
   turned_alike s r p l l' step below same number not turned = subst (λ (z : StepDone). HasRun h r.state.committed (r.state.run ++ leaving p z [] ∷ [])) (ap (λ z. z.1) turned) (silent_push h l r.state.committed r.state.run p (made_alike r.state.lock l r.state.run same number r.made) r.ran not below)
 
-  -- the first caller of a seat ends its hold by this step, and gives the object back, to whose log it alone has added. The lock is
-  -- erased the one that the turn makes, and the caller stands there
-  abbrev pub given_alike : (s : Table O P C R) (r : Rule s) (i n id : ℕ) (v : SeatView O P C R) (more : List (ℕ × Option (History O P C R))) (log : List (Event O P C R)) (l l' : Lock) (q : Stage) (step : StepDone) → erase l' ≡ erase l → served l' ≡ served l → Restages r.state.lock l' v.main.cpu q
-      → 0 < length s.homes → get_elem? s.views id ≡ some v → has v.main.cpu v.main.owned ≡ true
+  -- the seat's first caller ends its hold by this step and returns the object, to whose log only it has added. `erase` makes the
+  -- lock equal to the one that the turn makes, and the caller is at this stage
+  abbrev pub given_alike : (s : Table O P C R) (r : Rule s) (i n id : ℕ) (v : SeatView O P C R) (more : List (ℕ × Option (History O P C R))) (log : List (Event O P C R)) (l l' : Lock) (q : Stage) (step : StepDone)
+      → erase l' ≡ erase l → served l' ≡ served l → Restages r.state.lock l' v.main.cpu q → 0 < length s.homes
+      → get_elem? s.views id ≡ some v → has v.main.cpu v.main.owned ≡ true
       → holding (r.state.lock.line.stage v.main.cpu) ≡ true → ((y : ℕ) → y < h.numbers → holding (r.state.lock.line.stage y) ≡ true → y ≡ v.main.cpu)
       → AddedBy v.main.cpu v.main.seen log → Lawful meaning h log → turn r.state.lock v.main.cpu ≡ (l, step) → ends_hold step ≡ true → IsLockOf kind h.numbers (set s.words i n) l'
       → Rule (stepped s i n id ((0, Some (stored meaning h log)) ∷ more) (settled v q log (r.state.run ++ leaving v.main.cpu step (drop (length v.main.seen) log) ∷ [])) gives)
@@ -104,24 +106,29 @@ module _ {O P C R : Type 0} (meaning : Ghosts O P C R) (kind : LockKind) (h : Ce
         each = seats_move meaning kind h s r id v log (leaving p step events ∷ []) l' q stage there acts record { logged = adds; mine = (refl, tt) } (λ y below ne has_it. absurd (ne (alone y below has_it)));
       }
 
-module _ {O P C R : Type 0} (meaning : Ghosts O P C R) (kind : LockKind) (h : Cell O P C R) (slots id : ℕ) (me : Seat O P C R) (acts : has me.0.main.cpu me.0.main.owned ≡ true) {old : Stage} (s : Table O P C R) (m : LockState (definition_of kind).Extra) (c : StandsIn meaning kind h slots id me old s m) where
+module _ {O P C R : Type 0} (meaning : Ghosts O P C R) (kind : LockKind) (h : Cell O P C R) (slots id : ℕ)
+    (me : Seat O P C R) (acts : has me.0.main.cpu me.0.main.owned ≡ true) {old : Stage} (s : Table O P C R) (m : LockState (definition_of kind).Extra) (c : StandsIn meaning kind h slots id me old s m) where
   abbrev d : LockDefinition
   d = definition_of kind
 
   abbrev p : ℕ
   p = me.0.main.cpu
 
-  module _ (i k : ℕ) (l l' : LockState d.Extra) (tied : IsTied d h.numbers (set s.words i k) l') (step : StepDone) (does : d.turn m p ≡ (l, step)) (same : erase (lock_of kind l') ≡ erase (lock_of kind l)) (number : served (lock_of kind l') ≡ served (lock_of kind l))
-      (x : History O P C R) (others : List (ℕ × Option (History O P C R))) (one : slots ≡ 1) (carries : me.1 ≡ (0, Some x) ∷ others) (added : AddedBy p me.0.main.seen x.log) (valid : Lawful meaning h x.log) (is_stored : x ≡ stored meaning h x.log) where
+  module _ (i k : ℕ) (l l' : LockState d.Extra) (tied : IsTied d h.numbers (set s.words i k) l') (step : StepDone)
+      (does : d.turn m p ≡ (l, step)) (same : erase (lock_of kind l') ≡ erase (lock_of kind l)) (number : served (lock_of kind l') ≡ served (lock_of kind l))
+      (x : History O P C R) (others : List (ℕ × Option (History O P C R))) (one : slots ≡ 1) (carries : me.1 ≡ (0, Some x) ∷ others)
+      (added : AddedBy p me.0.main.seen x.log) (valid : Lawful meaning h x.log) (is_stored : x ≡ stored meaning h x.log) where
     abbrev events : List (Event O P C R)
     events = drop (length me.0.main.seen) x.log
 
     abbrev run' : List (TraceStep (Event O P C R))
     run' = c.rule.run ++ leaving p step events ∷ []
 
-    -- the caller gives the object back, and stands there
+    -- the caller returns the object, and is at this stage
     pub gives_to : (next : Lock → ℕ → Lock × List StepDone) (q : Stage) → holding old ≡ true → l'.line.stage ≡ moved m.line.stage p q → ends_hold step ≡ true → next (lock_of kind m) p ≡ (lock_of kind l', step ∷ [])
-        → (reported : Seat O P C R → Type 0) → (Returns q step me (settled me.0 q x.log run', rest me.1) → reported (settled me.0 q x.log run', rest me.1)) → Makes meaning kind h slots id me next s (rule_of meaning kind h s (lock_of kind m) c.rule) i k reported
+        → (reported : Seat O P C R → Type 0)
+        → (Returns q step me (settled me.0 q x.log run', rest me.1) → reported (settled me.0 q x.log run', rest me.1))
+        → Makes meaning kind h slots id me next s (rule_of meaning kind h s (lock_of kind m) c.rule) i k reported
     gives_to next q has_it stage ends is reported reports =
         let r = rule_of meaning kind h s (lock_of kind m) c.rule in
         let holds = ap holding c.at ∙ has_it in

@@ -1,10 +1,9 @@
--- Steps of callers that leave the object in its slot, and of holders that have it there.
+-- Steps by which a caller gets the object and leaves it in its slot, and steps of holders that keep it there.
 use Rattle.std.proofs.Common.{◌≡◌, ℕ, ◌<◌, true, List, [], ◌∷◌, map, refl, sym, ap, ◌∙◌, subst, arith, Some, None}
 use Rattle.atomic_table.specs.Table.{rest}
 use Rattle.event_log.specs.{declared.object.SeqObject.Ghosts, History.History}
 use Rattle.event_log.proofs.Beginnings.{begins_self}
-use Rattle.word_rule.specs.{declared.machine.step_done.StepDone.StepDone, declared.lock_kind.Stage.Stage, Cell.{Cell, stored}, CallerState.{Moves, Takes}, Locks.holding, LockRuns.HasRun, Rule.Seats.{Seat, moved_on, shown, settled}, Rule.Announced.{Gets, Goes}, Rule.Callers.{caller_of, state_without, state_with, IsWithout, IsWith}}
-use Rattle.word_rule.specs.Keeping.{IsKeeping}
+use Rattle.word_rule.specs.{declared.machine.step_done.StepDone.StepDone, declared.lock_kind.Stage.Stage, Cell.{Cell, stored}, CallerState.{Moves, Takes}, Locks.holding, LockRuns.HasRun, Rule.Seats.{Seat, moved_on, shown, settled}, Rule.Announced.{Gets, Goes}, Rule.Callers.{caller_of, state_without, state_with, IsWithout, IsWith}, Keeping.IsKeeping}
 use Rattle.word_rule.proofs.{Known.value_of, Lists.grows_self}
 
 module _ {O P C R : Type 0} (meaning : Ghosts O P C R) (h : Cell O P C R) (cpu : ℕ) where
@@ -75,7 +74,7 @@ module _ {O P C R : Type 0} (meaning : Ghosts O P C R) (h : Cell O P C R) (cpu :
       has = refl;
     }
 
-    -- and the object was taken out of the slot
+    -- and then the object is taken out of the slot
     module _ (m'' : Seat O P C R) (y : History O P C R) (slot : m'.1 ≡ (0, Some y) ∷ rest m'.1) (out : m'' ≡ (m'.0, (0, None) ∷ rest m'.1)) where
       abbrev pub x : History O P C R
       x = stored meaning h m.0.main.seen

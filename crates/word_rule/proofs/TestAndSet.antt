@@ -2,8 +2,7 @@
 use Rattle.std.proofs.Common.{◌≡◌, ◌≢◌, ◌⊎◌, inl, inr, ℕ, zero, suc, ◌<◌, ◌≤◌, ◌==◌, Bool, true, false, true≢false, not, cond, List, [], ◌∷◌, length, refl, sym, ap, subst, ◌∙◌, arith}
 use mathlib.Core.Option.{some}
 use lib.ListN.{get_elem?}
-use Rattle.event_log.specs.Distinct.{has}
-use Rattle.word_rule.specs.{declared.machine.step_done.StepDone.StepDone, declared.lock_kind.Stage.Stage, declared.lock_kind.Stage.TheVariants.{Idle, Ticket}, declared.lock_kind.TicketStage.TheVariants.Served, Line.{First, alone_with_it, leaving}, LockDefinition.{LockDefinition, LockState, IsState, opening_state}, Locks.holding, StepKinds.ends_hold, TestAndSet.{TestAndSetState, turn_at, StandsAt, test_and_set, done_by, rounds, passed_in}}
+use Rattle.word_rule.specs.{declared.lock_kind.Stage.Stage, declared.lock_kind.Stage.TheVariants.{Idle, Ticket}, declared.lock_kind.TicketStage.TheVariants.Served, Line.{alone_with_it, leaving}, LockDefinition.{IsState, opening_state}, Locks.holding, StepKinds.ends_hold, TestAndSet.{TestAndSetState, turn_at, StandsAt, test_and_set, done_by, rounds, passed_in}}
 use Rattle.word_rule.proofs.{LineChanges.never, Lists.has_at, LockProgress.{OneOnAt, LockFairness, LockProgress}, LockStates.{in_cell, stands_at}, Moves.{moved_same, moved_else}}
 use Rattle.word_rule.specs.declared.machine.step_done.StepDone.TheVariants as steps
 
@@ -52,7 +51,7 @@ module _ (l : TestAndSetState) (i : ℕ) where
   ended_by out q e = never e
 
 module _ (n : ℕ) (l : TestAndSetState) (h : IsState test_and_set n l) where
-  -- while the object is at home each caller gets on, and while it is out the holder does
+  -- while the object is at home each caller makes progress, and while it is out the holder does
   at_home : (i : ℕ) → i < n → l.line.out ≡ false → (q : Stage) → l.line.stage i ≡ q → on_at l.line.out q ≡ true
   at_home i below home Idle e = ap not home
   at_home i below home (Ticket (Served t)) e = refl
@@ -116,7 +115,7 @@ held_is = record {
     stood (suc zero) below = refl
     stood (suc (suc x)) below = absurd (omega (arith, below))
 
--- by fairness CPU 1 gets on, as it isn't in line; but its turn leaves it where it stood
+-- by fairness CPU 1 makes progress, as it isn't in line; but its turn changes nothing
 pub is_unfair : (p : LockProgress test_and_set 2) → LockFairness test_and_set 2 p → ⊥
 is_unfair p fair =
     let on = fair.outside 2 held 1 held_is (omega arith) refl in
@@ -132,7 +131,7 @@ record AtRest (l : TestAndSetState) : Type 0 where
 one_not : (let n : ℕ = 1 in n) ≢ 0
 one_not e = absurd (omega (arith, e))
 
--- so round after round CPU 0 has the object, and CPU 1 never
+-- so in each round CPU 0 gets the object, and CPU 1 never does
 passed : (n : ℕ) (l : TestAndSetState) → AtRest l → done_by test_and_set l (rounds n) ≡ passed_in n
 passed zero l h = refl
 passed (suc n) l h =
@@ -148,7 +147,7 @@ passed (suc n) l h =
       other = moved_else taken.line.stage 0 Idle 1 one_not ∙ (moved_else l.line.stage 0 served 1 one_not ∙ h.other);
     } in
     let rest = passed n gone again in
-    ap (λ p. (0, p.1) ∷ (1, (test_and_set.turn p.0 1).1) ∷ (0, (test_and_set.turn (test_and_set.turn p.0 1).0 0).1) ∷ done_by test_and_set (test_and_set.turn (test_and_set.turn p.0 1).0 0).0 (rounds n)) at_first
+    ap (λ p. let q = test_and_set.turn p.0 1 in let r = test_and_set.turn q.0 0 in (0, p.1) ∷ (1, q.1) ∷ (0, r.1) ∷ done_by test_and_set r.0 (rounds n)) at_first
     ∙ (ap (λ p. (0, steps.Look true) ∷ (1, p.1) ∷ (0, (test_and_set.turn p.0 0).1) ∷ done_by test_and_set (test_and_set.turn p.0 0).0 (rounds n)) at_second
     ∙ (ap (λ p. (0, steps.Look true) ∷ (1, steps.Look false) ∷ (0, p.1) ∷ done_by test_and_set p.0 (rounds n)) at_third
     ∙ ap (λ l. (0, steps.Look true) ∷ (1, steps.Look false) ∷ (0, steps.Serve) ∷ l) rest))

@@ -1,4 +1,4 @@
--- A control: a lock without a line, which is free or held. Whoever comes to it while it is free has it.
+-- A control: a test-and-set lock. It is free or held, and has no line: any CPU that looks while it is free gets it.
 use Rattle.std.specs.Prelude.{◌≡◌, ℕ, zero, suc, Bool, true, false, List, [], ◌∷◌}
 use Rattle.event_log.specs.Distinct.{has}
 use Rattle.word_rule.specs.{declared.machine.step_done.StepDone.StepDone, declared.lock_kind.Stage.Stage, declared.lock_kind.Stage.TheVariants.{Idle, Ticket}, declared.lock_kind.TicketStage.TheVariants.Served, Line.{First, alone_with_it, leaving}, LockDefinition.{LockDefinition, LockState}, Ticket.State.is_served}
@@ -7,7 +7,7 @@ use Rattle.word_rule.specs.declared.machine.step_done.StepDone.TheVariants as st
 abbrev pub TestAndSetState : Type 0
 TestAndSetState = LockState (Unit {0})
 
--- whoever comes to it while the object is at home takes it, and there is no line
+-- a CPU that comes while the object is at home takes it
 abbrev pub turn_at : TestAndSetState → ℕ → Bool → Stage → TestAndSetState × StepDone
 turn_at l i true Idle = (l, steps.Look false)
 turn_at l i false Idle = (record l { line = alone_with_it l.line i (Ticket (Served 0)) }, steps.Look true)
@@ -36,17 +36,17 @@ test_and_set = record {
   holder = λ ticket. Ticket (Served 0);
 }
 
--- who does which step of a lock, where its CPUs come in this order
+-- which CPU does which step of a lock under this schedule
 abbrev pub done_by : (d : LockDefinition) → LockState d.Extra → List ℕ → List (ℕ × StepDone)
 done_by d l [] = []
 done_by d l (i ∷ is) = (i, (d.turn l i).1) ∷ done_by d (d.turn l i).0 is
 
--- a schedule in which two CPUs come again and again
+-- the schedule of this many rounds, each of which names two CPUs
 abbrev pub rounds : ℕ → List ℕ
 rounds zero = []
 rounds (suc n) = 0 ∷ 1 ∷ 0 ∷ rounds n
 
--- in each round CPU 0 takes the object, CPU 1 looks in vain, and CPU 0 ends its hold
+-- in each round CPU 0 gets the object, CPU 1 looks and doesn't get it, and CPU 0 ends its hold
 abbrev pub passed_in : ℕ → List (ℕ × StepDone)
 passed_in zero = []
 passed_in (suc n) = (0, steps.Look true) ∷ (1, steps.Look false) ∷ (0, steps.Serve) ∷ passed_in n

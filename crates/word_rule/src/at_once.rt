@@ -1,5 +1,5 @@
-//! Operations on a cell's table that are more than one turn: one by which a caller comes, one after which it rests with a try
-//! prepared, and one that gives such a try up.
+//! Operations on a cell's table that aren't a single turn: an arrival, which is two turns; a turn after which the caller rests with
+//! a try prepared; and one that gives up such a try.
 
 ghost use Rattle.std.specs.Prelude.{ℕ, ◌+◌, ◌%◌, ◌^◌, ◌==◌};
 ghost use prog.Atomic.{either};
@@ -10,7 +10,7 @@ use atomic_table::Play;
 use event_log::{Event, Logged, SeqObject};
 
 impl<O: SeqObject> LockTable<O> {
-    /// A fetch-and-add by which the caller comes: two turns.
+    /// A fetch-and-add by which the caller arrives: two turns.
     pub fn arrive_adding<M: Play<Option<Logged<O>>, View<Key<O>, Event<O>>>>(
         &self,
         seat: &mut Seat<O>,
@@ -23,7 +23,7 @@ impl<O: SeqObject> LockTable<O> {
         self.table.shared.fetch_add::<M>(seat, word, k)
     }
 
-    /// A swap by which the caller comes: two turns.
+    /// A swap by which the caller arrives: two turns.
     pub fn arrive_swapping<M: Play<Option<Logged<O>>, View<Key<O>, Event<O>>>>(
         &self,
         seat: &mut Seat<O>,
@@ -36,7 +36,7 @@ impl<O: SeqObject> LockTable<O> {
         self.table.shared.swap::<M>(seat, word, new)
     }
 
-    /// A compare-and-exchange that is a turn, after which the caller rests with a try prepared where the line is empty by it.
+    /// A compare-and-exchange that is a turn. If it empties the line, the caller rests with a try prepared.
     pub fn rest_exchanging<M: Play<Option<Logged<O>>, View<Key<O>, Event<O>>>>(
         &self,
         seat: &mut Seat<O>,
@@ -52,7 +52,7 @@ impl<O: SeqObject> LockTable<O> {
             .compare_exchange::<M>(seat, word, from, to)
     }
 
-    /// A load by which the caller gives up the try that it has prepared.
+    /// A load by which the caller gives up the try that it has prepared, which is no step of the lock.
     pub fn withdraw<M: Play<Option<Logged<O>>, View<Key<O>, Event<O>>>>(
         &self,
         seat: &mut Seat<O>,

@@ -1,10 +1,10 @@
-//! The control of fairness: what a lock without a line does, on a function without effect.
+//! A control for fairness: how a lock without a line starves a caller, on a function without effect.
 
 ghost use Rattle.std.specs.Prelude.{◌≡◌, ℕ};
 ghost use Rattle.word_rule.specs.{LockDefinition.opening_state, TestAndSet.{test_and_set, done_by, rounds, passed_in}};
 
-/// At a test-and-set lock one CPU passes another for as long as the schedule goes round: both CPUs come in each round, the one ends
-/// a hold in each, and the other, which came before it ended, looks in vain each time and never has the object.
+/// A test-and-set lock can starve a CPU. Under a schedule that names both CPUs in each round, CPU 0 acquires and releases the object
+/// in each, and CPU 1, which looks in between, never gets it. So no bound on rounds, as `calls_end` has it, holds of such a lock.
 pub fn one_passes_for_ever()
     ensures { (first n : ℕ) → done_by test_and_set (opening_state test_and_set first) (rounds n) ≡ passed_in n }
 {}
