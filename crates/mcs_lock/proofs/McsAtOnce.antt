@@ -1,5 +1,5 @@
--- The steps of an MCS lock that are more than one turn go by the lock's definition: one that comes is two turns, a clear and an
--- enter; one that goes to rest is an end of a hold and what prepares a try; and a try that was prepared is given up.
+-- MCS lock operations that aren't a single turn follow the lock's definition: an arrival is two turns, a clear and an enter; a rest
+-- ends a hold and prepares a try; and a wake gives up that try.
 use Rattle.std.proofs.Common.{◌≡◌, ◌≢◌, ℕ, ◌+◌, ◌<◌, ◌==◌, true, false, List, [], ◌∷◌, get_or, set, refl, sym, ap, ◌∙◌, subst, Option, Some, None}
 use mathlib.{Core.Logic.dite, Core.Option.{some, none}}
 use native.Mathlib.Decide.{ℕ_discrete}
@@ -11,7 +11,7 @@ use Rattle.event_log.specs.{declared.object.SeqObject.Ghosts, Distinct.has, Hist
 use Rattle.sound_run.specs.declared.lock_kind.LockKind.{LockKind}
 use Rattle.word_rule.specs.{declared.machine.step_done.StepDone.StepDone, declared.lock_kind.Stage.Stage, declared.lock_kind.Stage.TheVariants.{Idle, Mcs, Trying}, declared.lock_kind.McsStage.TheVariants.{Ready, Behind, Holding, Alone, Leaving}, Cell.{Cell, Lawful, stored}, CallerState.{CallerState, Gives, Moves}, Rule.AtOnce.{arrives, readied, rests, two_turns, withdraws}, Rule.CellInvariant.{SeatView, Table, CellInvariant}, Keeping.IsKeeping, Rule.Definition.{IsTurn, Makes as MakesAll}, Line.{going, moved}, LockDefinition.IsTied, Locks.{erase, holding, Lock, attempt, lock_of, prepare, turn}, Mcs.Acquire.{clear, enter}, Mcs.Definition.mcs_lock, Mcs.Release.pass, Mcs.State.{McsLock, untried, word_of}, Mcs.Try.{prepare as prepared}, Rule.Seats.Seat, Rule.Announced.{Lags, Goes}, Rule.Callers.{AddedBy, IsWithout, IsWith, state_without}}
 use Rattle.word_rule.proofs.{AtOnce.{between, else_between, first_goes, gives_to, second_gets, second_goes, turned_alike, turns_twice}, CallerSteps.{Makes, else_one, gets_by, goes_by, lacks_one}, Known.{AllIdle, idle_alone}, Lists.has_at, LockInterface.is_trying, LockStates.stands_at, Mcs.Erased.{Alike, erased_going, erased_prepared, unprepared}, Moves.{moved_same, moved_twice}, RuleStates.{StandsIn, by_caller, rule_of, turned_lock}, Stays.{turned_once, turned_twice, not_turned}}
-use Rattle.mcs_lock.specs.{AtOnce.{Comes, comes, RestOutcome, goes_to_rest, gives_up}, Steps.sees}
+use Rattle.mcs_lock.specs.{AtOnce.{ArriveOutcome, comes, RestOutcome, goes_to_rest, gives_up}, Steps.sees}
 use Rattle.mcs_lock.proofs.McsRule.{seeing}
 use Rattle.sound_run.specs.declared.lock_kind.LockKind.TheVariants as kinds
 use Rattle.word_rule.specs.declared.machine.step_done.StepDone.TheVariants as steps
@@ -50,7 +50,7 @@ module _ {O P C R : Type 0} (meaning : Ghosts O P C R) (h : Cell O P C R) (slots
   again : (s : Table O P C R) (l : McsLock) (i : ℕ) → IsTied mcs_lock n s.words l → IsTied mcs_lock n (set s.words i (get_or s.words i 0)) l
   again s l i tied = subst (λ (ws : List ℕ). IsTied mcs_lock n ws l) (sym (set-get_or s.words i 0)) tied
 
-  -- one that has prepared a try is erased as one that is idle
+  -- `erase` makes a lock with a prepared try equal to the one in which that CPU is idle
   unprepared_erased : (l : McsLock) → l.line.stage p ≡ Trying → erase (L (unprepared l p)) ≡ erase (L l)
   unprepared_erased l at = ap L (erased_going l p Idle (subst (λ (z : Stage). Alike z Idle (l.extra p) (l.extra p)) (sym at) record { stands = refl; names = refl }))
 
@@ -58,7 +58,7 @@ module _ {O P C R : Type 0} (meaning : Ghosts O P C R) (h : Cell O P C R) (slots
   arriving is = by_caller meaning kinds.Mcs h slots id me acts is _ (λ s l c _.
       let r = rule_at s l c in
       let found : ℕ = get_or s.words 0 0 in
-      let reported : Seat O P C R → Type 0 = Comes meaning me found in
+      let reported : Seat O P C R → Type 0 = ArriveOutcome meaning me found in
       let back : McsLock = unprepared l p in
       let erased = unprepared_erased l c.at in
       let named : l.extra p ≡ None = queue.trying_clear n l c.tied.state p c.below c.at in
@@ -153,20 +153,20 @@ module _ {O P C R : Type 0} (meaning : Ghosts O P C R) (h : Cell O P C R) (kind 
   pub withdraw_now : (m : Seat O P C R) → IsWithout meaning h cpu Trying m → MakesAll meaning h.kind h withdraws slots id m 0 (λ k. k) (gives_up meaning (step slots 0 0 0 none) m)
   withdraw_now m w = subst (λ k. MakesAll meaning k h withdraws slots id m 0 (λ k. k) (gives_up meaning (step slots 0 0 0 none) m)) (sym kind) (withdrawing meaning h slots id m w.pass_view.caller.acts w.at.stands)
 
-  -- a holder whose object lies in its slot
+  -- a holder whose object is in its slot
   pub rest_now : (x : History O P C R) (m me : Seat O P C R) → IsWith meaning h cpu (Mcs Alone) x m → slots ≡ 1 → me ≡ (m.0, (0, Some x) ∷ rest m.1) → MakesAll meaning h.kind h rests slots id me 0 (λ k. either (k == (cpu + 1)) 0 k) (goes_to_rest meaning (step slots 0 (cpu + 1) 0 none) me)
   rest_now x m me w one filled =
       let Goal : LockKind × ℕ × Seat O P C R → Type 0 = λ z. MakesAll meaning z.0 h rests slots id z.2 0 (λ k. either (k == (z.1 + 1)) 0 k) (goes_to_rest meaning (step slots 0 (z.1 + 1) 0 none) z.2) in
       subst Goal (λ i. (sym kind i, w.at.number i, sym filled i))
       (resting meaning h slots id (m.0, (0, Some x) ∷ rest m.1) w.hold_view.caller.acts x (rest m.1) one refl w.added w.hold_view.valid w.hold_view.replayed w.at.stands (idle_alone m.0.others w.at.alone))
 
-  -- a holder's look, also of one whose object lies in its slot
+  -- a holder looks for a follower with its object in the slot
   pub see_kept_now : (m : Seat O P C R) → IsKeeping meaning h cpu (Mcs Holding) m → IsTurn meaning h.kind h slots id m (1 + cpu) (λ k. k) (sees meaning (step slots (1 + cpu) 0 0 none) m)
   see_kept_now m w =
       let Goal : LockKind × ℕ → Type 0 = λ z. IsTurn meaning z.0 h slots id m (1 + z.1) (λ k. k) (sees meaning (step slots (1 + z.1) 0 0 none) m) in
       subst Goal (λ i. (sym kind i, w.at.number i)) (seeing meaning h slots id m w.pass_view.caller.acts w.at.stands)
 
--- a caller that rests with its `next` clear is as an idle one
+-- a caller that rests with its `next` clear is shown as idle
 module _ {O P C R : Type 0} (meaning : Ghosts O P C R) (h : Cell O P C R) (m : Seat O P C R) where
   pub from_rest : (q : Stage) (done : List StepDone) (b : CallerState O P C R) → Moves meaning Trying q done (state_without h Trying m) b → Moves meaning Idle q done (state_without h Idle m) b
   from_rest q done b moved = record { caller = moved.caller; from = refl; to = moved.to; grows = moved.grows; still = moved.still; extends = moved.extends; valid = moved.valid; has = moved.has }

@@ -1,4 +1,4 @@
--- What contracts say of a caller of an MCS lock that rests with its `next` clear, and of a step of it that is two.
+-- Contracts of MCS lock callers that rest with `next` clear, and of their arrivals.
 use Rattle.std.specs.{declared.cmp.PartialEq.{Ghosts as Eq}, declared.default.Default.{Ghosts as Default}}
 use Rattle.event_log.specs.declared.object.SeqObject.{Ghosts}
 use Rattle.word_rule.specs.{declared.lock_kind.Stage.TheVariants.Idle, CallerState.CallerState, Mcs.Steps.IsClear, Sides.{IsOutsideAt, state_outside}}
@@ -9,10 +9,10 @@ module _ {O P C R : Type 0} {g : Ghosts O P C R} {call_eq : Eq C} {call_default 
   abbrev pub IsRestedOf : McsCell O P C R → RestedCaller O P C R g call_eq call_default reply_eq reply_default → Type 0
   IsRestedOf c t = IsOutsideAt c.table t.outside
 
-  -- where it stands: as an idle caller
+  -- its state: it is idle
   abbrev pub state_of_rested : RestedCaller O P C R g call_eq call_default reply_eq reply_default → CallerState O P C R
   state_of_rested t = state_outside Idle t.outside
 
-  -- the caller cleared its `next`, and this is true of where it stood then
+  -- the caller cleared its `next`, and this is true of its state then
   abbrev pub AfterClear : McsCell O P C R → RestedCaller O P C R g call_eq call_default reply_eq reply_default → (CallerState O P C R → Type 0) → Type 0
   AfterClear c t then = (r : ReadyCaller O P C R g call_eq call_default reply_eq reply_default) × IsReadyOf c r × IsClear g (state_of_rested t) (state_of_ready r) × then (state_of_ready r)

@@ -1,4 +1,4 @@
--- What an MCS lock's steps report that are more than one turn.
+-- Reports of MCS lock operations that aren't a single turn.
 use Rattle.std.specs.Prelude.{◌≡◌, ◌≢◌, ℕ, true, false, [], ◌∷◌, Option}
 use Rattle.atomic_table.specs.Table.{Step}
 use Rattle.event_log.specs.{declared.object.SeqObject.Ghosts, History.History}
@@ -7,17 +7,16 @@ use Rattle.mcs_lock.specs.Steps.{EnterOutcome}
 use Rattle.word_rule.specs.declared.machine.step_done.StepDone.TheVariants as steps
 
 module _ {O P C R : Type 0} (meaning : Ghosts O P C R) where
-  -- the caller, whose `next` is clear, clears it, and then enters
-  pub record Comes (m : Seat O P C R) (n : ℕ) (m' : Seat O P C R) : Type 0 where
+  -- the caller clears its `next`, which is clear already, and then enters
+  pub record ArriveOutcome (m : Seat O P C R) (n : ℕ) (m' : Seat O P C R) : Type 0 where
     pub between : Seat O P C R
     pub clears : Goes meaning (Mcs Ready) (steps.Clear ∷ []) m between
     pub enters : EnterOutcome meaning between n m'
 
   abbrev pub comes : Step (Option (History O P C R)) → Seat O P C R → ℕ → Seat O P C R → Type 0
-  comes st m n m' = Comes m n m'
+  comes st m n m' = ArriveOutcome m n m'
 
-  -- the object goes home where the tail was the word that was asked for, and the caller's `next` is clear; else there is one
-  -- behind the holder
+  -- if the tail was the expected word, the caller returns the object and its `next` is clear; else another CPU entered after it
   pub record RestOutcome (last : ℕ) (m : Seat O P C R) (n : ℕ) (m' : Seat O P C R) : Type 0 where
     pub hit : n ≡ last → Returns Trying (steps.Empty true) m m'
     pub miss : n ≢ last → Lags meaning (Mcs Leaving) (steps.Empty false ∷ []) m m'

@@ -1,4 +1,4 @@
-//! Steps of an MCS lock by a caller that rests with its `next` clear.
+//! Operations of MCS lock callers whose `next` is clear while they rest.
 
 ghost use Rattle.std.specs.Prelude.{[], true, false, IfOk, IfErr};
 ghost use Rattle.word_rule.specs.{declared.lock_kind.Stage.TheVariants.Idle, CallerState.Moves, Mcs.Steps.{IsEmpty, IsEnter}, Passes.{state_of_pass, state_of_hold}};
@@ -12,8 +12,8 @@ use event_log::SeqObject;
 use word_rule::{Hold, Inside, Pass};
 
 impl<O: SeqObject> McsCell<O> {
-    /// Puts itself into the tail, as its `next` is clear: one swap, which is a clear and an enter. The object comes where nobody
-    /// was there; a caller that owns every number of the cell gets it.
+    /// Puts itself into the tail: one swap, which is a clear and an enter, since its `next` is clear already. If the queue was empty
+    /// it gets the object. A caller that owns every number of the cell always gets it.
     pub fn arrive(&self, rested: Rested<O>) -> Entered<O>
         requires { IsRestedOf self.now rested }
         ensures got { IfHold result (λ h. IsHoldOf self.now h × AfterClear self.now rested (λ r. IsEnter O.SeqObject r (state_of_hold h) true)) }
@@ -37,8 +37,8 @@ impl<O: SeqObject> McsCell<O> {
         }
     }
 
-    /// Empties the tail, if it is the last there, and gives the object back: one compare-and-exchange. It rests with its `next`
-    /// clear, as nobody came behind it. A caller that owns every number is the last.
+    /// Empties the tail if the caller is the last in the queue, and returns the object: one compare-and-exchange. Nobody has linked
+    /// itself to the caller, so it rests with `next` clear. A caller that owns every number is the last.
     pub fn rest(&self, alone: Alone<O>) -> Result<Rested<O>, Leaving<O>>
         requires { IsAloneOf self.now alone }
         ensures home { IfOk result (λ t. IsRestedOf self.now t × IsEmpty O.SeqObject (state_of_alone alone) (state_of_rested t) true) }
@@ -68,7 +68,7 @@ impl<O: SeqObject> McsCell<O> {
         }
     }
 
-    /// It is a pass again, which can be joined and can close the cell: one load.
+    /// Makes the caller a pass again, which can be joined and can close the cell: one load, which is no step.
     pub fn wake(&self, rested: Rested<O>) -> Pass<O>
         requires { IsRestedOf self.now rested }
         ensures pass { IsPassOf self.now result }

@@ -1,4 +1,4 @@
-//! The steps of an MCS lock that are more than one turn.
+//! The atomic operations of MCS lock callers whose `next` is clear while they rest.
 
 ghost use Rattle.mcs_lock.specs.AtOnce.{comes, goes_to_rest, gives_up};
 
@@ -13,14 +13,14 @@ impl<O: SeqObject> Play<Option<Logged<O>>, View<Key<O>, Event<O>>> for Arrive {
     ghost then = { comes O.SeqObject };
 }
 
-/// A compare-and-exchange of the tail, from the caller to nobody, after which its `next` is clear.
+/// A compare-and-exchange of the tail, from the caller to nobody. If it succeeds, the caller's `next` is clear.
 pub struct Rest;
 
 impl<O: SeqObject> Play<Option<Logged<O>>, View<Key<O>, Event<O>>> for Rest {
     ghost then = { goes_to_rest O.SeqObject };
 }
 
-/// A load by a caller whose `next` is clear, and needn't be any more.
+/// A load, after which the caller's `next` needn't be clear.
 pub struct Wake;
 
 impl<O: SeqObject> Play<Option<Logged<O>>, View<Key<O>, Event<O>>> for Wake {

@@ -1,4 +1,4 @@
-//! Steps of an MCS lock by which the object stays in its slot.
+//! Steps of an MCS lock that leave the object in its slot.
 
 ghost use Rattle.std.specs.Prelude.{true, false, IfOk, IfErr};
 ghost use Rattle.word_rule.specs.{Mcs.Steps.{IsEmpty, IsEnter, IsSee}};
@@ -14,7 +14,7 @@ use event_log::SeqObject;
 use word_rule::{Inside, next_index};
 
 impl<O: SeqObject> McsCell<O> {
-    /// Puts itself into the tail, as `arrive` does, but leaves the object where it lies.
+    /// As `arrive`, but leaves the object in its slot.
     #[inline]
     pub fn arrive_kept(&self, rested: Rested<O>) -> Result<Kept<O>, Behind<O>>
         requires { IsRestedOf self.now rested }
@@ -33,7 +33,7 @@ impl<O: SeqObject> McsCell<O> {
         }
     }
 
-    /// Looks who is behind it, as `see` does: one load. Where it sees one it takes the object out of the slot.
+    /// As `see`, with the object in its slot: one load. If it sees a follower, it takes the object out of the slot.
     #[inline]
     pub fn see_kept(&self, kept: Kept<O>) -> Result<Passing<O>, KeptAlone<O>>
         requires { IsKeptOf self.now kept }
@@ -57,8 +57,8 @@ impl<O: SeqObject> McsCell<O> {
         }
     }
 
-    /// Empties the tail, if it is the last there, as `rest` does: one compare-and-exchange, and the object, which lies in its slot,
-    /// is at home again. Where it isn't the last it takes the object out of the slot.
+    /// As `rest`, with the object already in its slot: one compare-and-exchange. If another CPU has entered, it takes the object out
+    /// of the slot.
     #[inline]
     pub fn rest_kept(&self, alone: KeptAlone<O>) -> Result<Rested<O>, Leaving<O>>
         requires { IsKeptAloneOf self.now alone }

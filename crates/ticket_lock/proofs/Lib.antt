@@ -1,2 +1,2 @@
 pub mod TicketRule
-pub mod AtOnce
+pub mod TicketAtOnce

@@ -1,4 +1,4 @@
-//! A hold whose object stays in its slot, since nobody asks it anything: the lock guards something else.
+//! A hold of a ticket lock whose object stays in its slot, for callers whose lock guards other data.
 
 ghost use Rattle.event_log.proofs.Props.{legal_props};
 ghost use Rattle.word_rule.specs.{declared.lock_kind.Stage.TheVariants.Ticket, declared.lock_kind.TicketStage.TheVariants.Served, Keeping.IsKeeping};
@@ -6,7 +6,7 @@ ghost use Rattle.word_rule.specs.{declared.lock_kind.Stage.TheVariants.Ticket, d
 use event_log::SeqObject;
 use word_rule::Outside;
 
-/// A caller with the object, which lies in its slot. It can't be dropped: it ends in `serve_kept`.
+/// A holder whose object is in its slot. It can't be dropped: it ends in `serve_kept`.
 pub struct Kept<O: SeqObject> {
     pub(crate) outside: Outside<O>,
     pub(crate) ticket: u32,

@@ -3,7 +3,7 @@ use Rattle.atomic_table.specs.Table.{rest}
 use Rattle.word_rule.specs.{declared.lock_kind.Stage.TheVariants.Ticket, declared.lock_kind.TicketStage.TheVariants.{Drawn, Served}, Locks.holder, Rule.Announced.Goes, Rule.Callers.caller_of, Ticket.Steps.HasDrawn}
 use Rattle.word_rule.proofs.{Known.idle_alone, Acting.{took, takes_from, holds_from, goes_without, lags_without, moves_without}}
 use Rattle.ticket_lock.specs.Steps.{LookOutcome}
-use Rattle.ticket_lock.proofs.AtOnce.{arriving}
+use Rattle.ticket_lock.proofs.TicketAtOnce.{arriving}
 use Rattle.word_rule.specs.declared.machine.step_done.StepDone.TheVariants as steps
 use Rattle.ticket_lock.proofs.cell.TicketCell.arrive.Goals as goal
 

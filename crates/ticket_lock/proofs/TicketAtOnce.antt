@@ -1,13 +1,13 @@
--- The operation by which a caller comes goes by the lock's definition: it is two turns, a draw and a look.
+-- An arrival at a ticket lock follows the lock's definition: it is two turns, a draw and a look.
 use Rattle.std.proofs.{Common.{◌≡◌, ◌≢◌, ℕ, ◌+◌, ◌/◌, ◌%◌, ◌^◌, ◌<◌, true, false, List, [], ◌∷◌, ◌++◌, length, get_or, refl, sym, ap, ◌∙◌, subst, arith}, lemmas.Bool.false_from_ne_true, Math.Nat.mod-lt}
 use mathlib.{Core.Logic.dite, Core.Option.{none, some-injective}}
 use native.Mathlib.Decide.{ℕ_discrete}
 use Rattle.atomic_table.specs.Table.{step}
 use Rattle.atomic_table.proofs.Lists.{at_longer}
 use Rattle.event_log.specs.{declared.object.SeqObject.Ghosts, Distinct.has}
-use Rattle.word_rule.specs.{declared.machine.step_done.StepDone.StepDone, declared.lock_kind.Stage.TheVariants.{Idle, Ticket}, declared.lock_kind.TicketStage.TheVariants.{Drawn, Served}, Cell.{Cell}, Line.{is_first, moved}, Locks.{Lock, attempt, lock_of, turn}, Rule.AtOnce.{arrives, two_turns}, Rule.Definition.{Makes}, Rule.Seats.{Seat}, Ticket.Acquire.draw, Ticket.Definition.ticket_lock, Ticket.State.{TicketLock, tickets}}
-use Rattle.word_rule.proofs.{AtOnce.{between, first_goes, lacks_between, second_gets, second_goes, turns_twice, unready_idle}, CallerSteps.{gets_by, goes_by, lacks_one}, Known.AllIdle, Lists.{first_at, has_at}, LockInterface.is_trying, Moves.{moved_same}, RuleStates.{by_caller, rule_of, tried_lock, turned_lock}, Stays.{turned_once, turned_twice}, Ticket.Served.has_drawn, Ticket.Tries.draws_and_looks, Ticket.Turns.tried_by}
-use Rattle.ticket_lock.specs.{Arriving.{Comes, comes}, Steps.Draws}
+use Rattle.word_rule.specs.{declared.machine.step_done.StepDone.StepDone, declared.lock_kind.Stage.TheVariants.{Idle, Ticket}, declared.lock_kind.TicketStage.TheVariants.{Drawn, Served}, Cell.Cell, Line.{is_first, moved}, Locks.{Lock, attempt, lock_of, turn}, Rule.AtOnce.{arrives, two_turns}, Rule.Definition.Makes, Rule.Seats.Seat, Ticket.Acquire.draw, Ticket.Definition.ticket_lock, Ticket.State.{TicketLock, tickets}}
+use Rattle.word_rule.proofs.{AtOnce.{between, first_goes, lacks_between, second_gets, second_goes, turns_twice, unready_idle}, CallerSteps.{gets_by, goes_by, lacks_one}, Known.AllIdle, Lists.{first_at, has_at}, LockInterface.is_trying, Moves.moved_same, RuleStates.{by_caller, rule_of, tried_lock, turned_lock}, Stays.{turned_once, turned_twice}, Ticket.Served.has_drawn, Ticket.Tries.draws_and_looks, Ticket.Turns.tried_by}
+use Rattle.ticket_lock.specs.{AtOnce.{ArriveOutcome, comes}, Steps.Draws}
 use Rattle.sound_run.specs.declared.lock_kind.LockKind.TheVariants as kinds
 use Rattle.word_rule.specs.declared.machine.step_done.StepDone.TheVariants as steps
 use Rattle.word_rule.proofs.Ticket.Turns as turns
@@ -25,7 +25,7 @@ module _ {O P C R : Type 0} (meaning : Ghosts O P C R) (h : Cell O P C R) (slots
       let found : ℕ = get_or s.words 0 0 in
       let t : ℕ = found / tickets in
       let new : ℕ = (found + tickets) % 2 ^ 64 in
-      let reported : Seat O P C R → Type 0 = Comes meaning me found in
+      let reported : Seat O P C R → Type 0 = ArriveOutcome meaning me found in
       let same : (l.extra + length l.line.cpus) % tickets ≡ t = sym (turns.ticket_is h.numbers s.words l c.tied p c.below) in
       let turned = turned_lock kinds.Ticket l p (draw l p, steps.Draw) (turns.turned l p Idle c.at) in
       let untried : is_trying (l.line.stage p) ≡ false = ap is_trying c.at in
