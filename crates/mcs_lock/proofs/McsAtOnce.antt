@@ -1,15 +1,15 @@
 -- MCS lock operations that aren't a single turn follow the lock's definition: an arrival is two turns, a clear and an enter; a rest
 -- ends a hold and prepares a try; and a wake gives up that try.
-use Rattle.std.proofs.Common.{◌≡◌, ◌≢◌, ℕ, ◌+◌, ◌<◌, ◌==◌, true, false, List, [], ◌∷◌, get_or, set, refl, sym, ap, ◌∙◌, subst, Option, Some, None}
-use mathlib.{Core.Logic.dite, Core.Option.{some, none}}
+use Rattle.std.proofs.Common.{◌≡◌, ℕ, ◌+◌, ◌<◌, ◌==◌, true, false, List, [], ◌∷◌, get_or, set, refl, sym, ap, ◌∙◌, subst, Option, Some, None}
+use mathlib.{Core.Logic.dite, Core.Option.none}
 use native.Mathlib.Decide.{ℕ_discrete}
 use prog.Atomic.{either}
-use lib.{ListN.get_elem?, Seq.set-get_or}
+use lib.Seq.{set-get_or}
 use Rattle.atomic_table.specs.Table.{step, rest}
 use Rattle.atomic_table.proofs.Lists.{exchanged}
 use Rattle.event_log.specs.{declared.object.SeqObject.Ghosts, Distinct.has, History.History}
 use Rattle.sound_run.specs.declared.lock_kind.LockKind.{LockKind}
-use Rattle.word_rule.specs.{declared.machine.step_done.StepDone.StepDone, declared.lock_kind.Stage.Stage, declared.lock_kind.Stage.TheVariants.{Idle, Mcs, Trying}, declared.lock_kind.McsStage.TheVariants.{Ready, Behind, Holding, Alone, Leaving}, Cell.{Cell, Lawful, stored}, CallerState.{CallerState, Gives, Moves}, Rule.AtOnce.{arrives, readied, rests, two_turns, withdraws}, Rule.CellInvariant.{SeatView, Table, CellInvariant}, Keeping.IsKeeping, Rule.Definition.{IsTurn, Makes as MakesAll}, Line.{going, moved}, LockDefinition.IsTied, Locks.{erase, holding, Lock, attempt, lock_of, prepare, turn}, Mcs.Acquire.{clear, enter}, Mcs.Definition.mcs_lock, Mcs.Release.pass, Mcs.State.{McsLock, untried, word_of}, Mcs.Try.{prepare as prepared}, Rule.Seats.Seat, Rule.Announced.{Lags, Goes}, Rule.Callers.{AddedBy, IsWithout, IsWith, state_without}}
+use Rattle.word_rule.specs.{declared.machine.step_done.StepDone.StepDone, declared.lock_kind.Stage.Stage, declared.lock_kind.Stage.TheVariants.{Idle, Mcs, Trying}, declared.lock_kind.McsStage.TheVariants.{Ready, Behind, Holding, Alone, Leaving}, Cell.{Cell, Lawful, stored}, CallerState.{CallerState, Gives, Moves}, Rule.AtOnce.{arrives, readied, rests, two_turns, withdraws}, Rule.CellInvariant.{SeatView, Table, CellInvariant}, Keeping.IsKeeping, Rule.Definition.{IsTurn, Makes as MakesAll}, Line.{going, moved}, LockDefinition.IsTied, Locks.{erase, Lock, lock_of, turn}, Mcs.Acquire.{clear, enter}, Mcs.Definition.mcs_lock, Mcs.Release.pass, Mcs.State.{McsLock, untried, word_of}, Mcs.Try.{prepare as prepared}, Rule.Seats.Seat, Rule.Callers.{AddedBy, IsWithout, IsWith, state_without}}
 use Rattle.word_rule.proofs.{AtOnce.{between, else_between, first_goes, gives_to, second_gets, second_goes, turned_alike, turns_twice}, CallerSteps.{Makes, else_one, gets_by, goes_by, lacks_one}, Known.{AllIdle, idle_alone}, Lists.has_at, LockInterface.is_trying, LockStates.stands_at, Mcs.Erased.{Alike, erased_going, erased_prepared, unprepared}, Moves.{moved_same, moved_twice}, RuleStates.{StandsIn, by_caller, rule_of, turned_lock}, Stays.{turned_once, turned_twice, not_turned}}
 use Rattle.mcs_lock.specs.{AtOnce.{ArriveOutcome, comes, RestOutcome, goes_to_rest, gives_up}, Steps.sees}
 use Rattle.mcs_lock.proofs.McsRule.{seeing}

@@ -1,13 +1,13 @@
 -- An arrival at a ticket lock follows the lock's definition: it is two turns, a draw and a look.
-use Rattle.std.proofs.{Common.{◌≡◌, ◌≢◌, ℕ, ◌+◌, ◌/◌, ◌%◌, ◌^◌, ◌<◌, true, false, List, [], ◌∷◌, ◌++◌, length, get_or, refl, sym, ap, ◌∙◌, subst, arith}, lemmas.Bool.false_from_ne_true, Math.Nat.mod-lt}
+use Rattle.std.proofs.{Common.{◌≡◌, ℕ, ◌+◌, ◌/◌, ◌%◌, ◌^◌, ◌<◌, true, false, List, [], ◌∷◌, length, get_or, refl, sym, ap, ◌∙◌, subst, arith}, lemmas.Bool.false_from_ne_true, Math.Nat.mod-lt}
 use mathlib.{Core.Logic.dite, Core.Option.{none, some-injective}}
 use native.Mathlib.Decide.{ℕ_discrete}
 use Rattle.atomic_table.specs.Table.{step}
 use Rattle.atomic_table.proofs.Lists.{at_longer}
 use Rattle.event_log.specs.{declared.object.SeqObject.Ghosts, Distinct.has}
-use Rattle.word_rule.specs.{declared.machine.step_done.StepDone.StepDone, declared.lock_kind.Stage.TheVariants.{Idle, Ticket}, declared.lock_kind.TicketStage.TheVariants.{Drawn, Served}, Cell.Cell, Line.{is_first, moved}, Locks.{Lock, attempt, lock_of, turn}, Rule.AtOnce.{arrives, two_turns}, Rule.Definition.Makes, Rule.Seats.Seat, Ticket.Acquire.draw, Ticket.Definition.ticket_lock, Ticket.State.{TicketLock, tickets}}
-use Rattle.word_rule.proofs.{AtOnce.{between, first_goes, lacks_between, second_gets, second_goes, turns_twice, unready_idle}, CallerSteps.{gets_by, goes_by, lacks_one}, Known.AllIdle, Lists.{first_at, has_at}, LockInterface.is_trying, Moves.moved_same, RuleStates.{by_caller, rule_of, tried_lock, turned_lock}, Stays.{turned_once, turned_twice}, Ticket.Served.has_drawn, Ticket.Tries.draws_and_looks, Ticket.Turns.tried_by}
-use Rattle.ticket_lock.specs.{AtOnce.{ArriveOutcome, comes}, Steps.Draws}
+use Rattle.word_rule.specs.{declared.machine.step_done.StepDone.StepDone, declared.lock_kind.Stage.TheVariants.{Idle, Ticket}, declared.lock_kind.TicketStage.TheVariants.{Drawn, Served}, Cell.Cell, Line.{is_first, moved}, Locks.{Lock, lock_of, turn}, Rule.AtOnce.{arrives, two_turns}, Rule.Definition.Makes, Rule.Announced.Goes, Rule.Callers.{caller_of, state_without, IsWithout}, Rule.Seats.Seat, Ticket.Acquire.draw, Ticket.State.{TicketLock, tickets}, Ticket.Steps.{HasDrawn, IsDraw}}
+use Rattle.word_rule.proofs.{Acting.{goes_without, moves_without}, AtOnce.{between, first_goes, lacks_between, second_gets, second_goes, turns_twice, unready_idle}, CallerSteps.{gets_by, goes_by, lacks_one}, Known.AllIdle, Lists.{first_at, has_at}, LockInterface.is_trying, Moves.moved_same, RuleStates.{by_caller, rule_of, tried_lock, turned_lock}, Stays.{turned_once, turned_twice}, Ticket.Served.has_drawn, Ticket.Tries.draws_and_looks, Ticket.Turns.tried_by}
+use Rattle.ticket_lock.specs.{AtOnce.{ArriveOutcome, comes}, Steps.{Draws, LookOutcome}}
 use Rattle.sound_run.specs.declared.lock_kind.LockKind.TheVariants as kinds
 use Rattle.word_rule.specs.declared.machine.step_done.StepDone.TheVariants as steps
 use Rattle.word_rule.proofs.Ticket.Turns as turns
@@ -58,3 +58,19 @@ module _ {O P C R : Type 0} (meaning : Ghosts O P C R) (h : Cell O P C R) (slots
 
   pub arriving : h.kind ≡ kinds.Ticket → me.0.main.stage ≡ Idle → AllIdle me.0.others → Makes meaning h.kind h arrives slots id me 0 (λ k. (k + tickets) % 2 ^ 64) (comes meaning (step slots 0 tickets 0 none) me)
   arriving kind is idle = subst (λ z. Makes meaning z h arrives slots id me 0 (λ k. (k + tickets) % 2 ^ 64) (comes meaning (step slots 0 tickets 0 none) me)) (sym kind) (arrives_so kind is idle)
+
+-- an arrival by its two steps, at the ticket that the code has
+pub record Arrived {O P C R : Type 0} (meaning : Ghosts O P C R) (h : Cell O P C R) (cpu t n : ℕ) (m b m' : Seat O P C R) : Type 0 where
+  pub drawn : IsWithout meaning h cpu (Ticket (Drawn t)) b
+  pub draws : IsDraw meaning (state_without h Idle m) (state_without h (Ticket (Drawn t)) b)
+  pub looks : LookOutcome meaning t b n m'
+
+pub arrived : {O P C R : Type 0} (meaning : Ghosts O P C R) (h : Cell O P C R) (cpu t n : ℕ) (m m' : Seat O P C R)
+    → IsWithout meaning h cpu Idle m → (a : ArriveOutcome meaning m n m') → t ≡ n / tickets → Arrived meaning h cpu t n m a.between m'
+arrived meaning h cpu t n m m' w a is =
+    let goes = subst (λ (u : ℕ). Goes meaning (Ticket (Drawn u)) (steps.Draw ∷ []) m a.between) (sym is) a.draws.goes in
+    let drew = subst (λ (u : ℕ). HasDrawn (caller_of h m.0) u a.between.0.main.run) (sym is) (a.draws.drawn h w.at.reported) in record {
+      drawn = goes_without meaning h cpu Idle (Ticket (Drawn t)) (steps.Draw ∷ []) m a.between w goes;
+      draws = (t, moves_without meaning h cpu Idle (Ticket (Drawn t)) (steps.Draw ∷ []) m a.between w goes, drew);
+      looks = subst (λ (u : ℕ). LookOutcome meaning u a.between n m') (sym is) a.looks;
+    }

@@ -1,7 +1,7 @@
 use Rattle.std.proofs.Common.{rules, refl, ℕ, ◌-◌, [], ◌∷◌, sym, ap, subst, ◌∙◌, arith, Some}
 use Rattle.atomic_table.specs.Table.{rest}
 use Rattle.word_rule.specs.{declared.lock_kind.Stage.TheVariants.{Mcs, Trying}, declared.lock_kind.McsStage.TheVariants.{Ready, Behind}, Locks.holder, Rule.Callers.{IsWithout, state_without}}
-use Rattle.word_rule.proofs.{Acting.{took, takes_from, holds_from, goes_without, moves_without}, CallerFacts.{not_else, is_other, else_now, else_below}}
+use Rattle.word_rule.proofs.{Acting.{took, takes_from, holds_from, goes_without, moves_without}, CallerFacts.{not_else, is_other, else_now}}
 use Rattle.mcs_lock.proofs.{McsActing.named, McsAtOnce.{arrive_now, from_rest}}
 use Rattle.word_rule.specs.declared.machine.step_done.StepDone.TheVariants as steps
 use Rattle.mcs_lock.proofs.cell.McsCell.arrive.Goals as goal

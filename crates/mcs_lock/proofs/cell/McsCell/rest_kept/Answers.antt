@@ -1,6 +1,6 @@
-use Rattle.std.proofs.Common.{rules, true, false, [], ◌∷◌, refl, sym, ap, subst, ◌∙◌, arith, Some}
+use Rattle.std.proofs.Common.{rules, true, ◌∷◌, refl, sym, ap, subst, ◌∙◌, arith, Some}
 use Rattle.atomic_table.specs.Table.{rest}
-use Rattle.word_rule.specs.{declared.lock_kind.Stage.TheVariants.{Mcs, Trying}, declared.lock_kind.McsStage.TheVariants.{Alone, Leaving}, Cell.stored, Keeping.IsKeeping}
+use Rattle.word_rule.specs.{declared.lock_kind.Stage.TheVariants.Mcs, declared.lock_kind.McsStage.TheVariants.{Alone, Leaving}, Cell.stored, Keeping.IsKeeping}
 use Rattle.word_rule.proofs.{Acting.{left, rests_now, gives_now, not_all}, KeptSlots.{as_hold, filled, taken_out, moves_out}}
 use Rattle.mcs_lock.proofs.McsAtOnce.{rest_now, to_rest}
 use Rattle.word_rule.specs.declared.machine.step_done.StepDone.TheVariants as steps

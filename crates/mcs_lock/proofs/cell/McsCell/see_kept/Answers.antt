@@ -1,4 +1,4 @@
-use Rattle.std.proofs.Common.{rules, ℕ, ◌-◌, ◌^◌, ◌<◌, true, false, [], ◌∷◌, refl, sym, ap, subst, ◌∙◌, arith, Some}
+use Rattle.std.proofs.Common.{rules, ℕ, ◌-◌, ◌^◌, ◌<◌, [], ◌∷◌, refl, sym, ap, subst, ◌∙◌, arith, Some}
 use Rattle.atomic_table.specs.Table.{rest}
 use Rattle.word_rule.specs.{declared.lock_kind.Stage.TheVariants.Mcs, declared.lock_kind.McsStage.TheVariants.{Holding, Passing}, Cell.stored, Keeping.IsKeeping, Rule.Announced.IsElse}
 use Rattle.word_rule.proofs.{CallerFacts.{not_else, is_other, else_below, else_now}, KeptSlots.{below_kept, keeps_on, moves_kept, taken_out, moves_out}}

@@ -1,5 +1,5 @@
-use Rattle.std.proofs.Common.{rules, refl, subst, ap, ◌∙◌, arith}
-use Rattle.word_rule.specs.{declared.lock_kind.Stage.TheVariants.{Idle, Ticket}, declared.lock_kind.TicketStage.TheVariants.Served, Cell.stored, Keeping.IsKeeping}
+use Rattle.std.proofs.Common.{rules, refl, subst, arith}
+use Rattle.word_rule.specs.{declared.lock_kind.Stage.TheVariants.Ticket, declared.lock_kind.TicketStage.TheVariants.Served, Keeping.IsKeeping}
 use Rattle.word_rule.proofs.{Acting.{left, rests_now, gives_now}, KeptSlots.{as_hold, filled}}
 use Rattle.ticket_lock.proofs.TicketRule.{adding_now, subtracting_now}
 use Rattle.ticket_lock.proofs.cell.TicketCell.serve_kept.Goals as goal
