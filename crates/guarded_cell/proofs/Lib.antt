@@ -6,3 +6,6 @@ pub mod Workers
 pub mod SoundRuns
 pub mod Joins
 pub mod HeldCalls
+pub mod ManyCallers
+pub mod ManyEnded
+pub mod InTime

@@ -1,2 +1,3 @@
 pub mod McsRule
 pub mod McsActing
+pub mod McsAtOnce

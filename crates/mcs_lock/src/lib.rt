@@ -9,9 +9,14 @@
 //! that finds the tail empty or its `locked` clear.
 #![tactic(auto)]
 
+mod at_once;
+mod at_once_rule;
 mod cell;
+mod keeping;
+mod kept;
 mod lock;
 mod make;
+mod rested;
 mod rule;
 mod states;
 mod steps;
@@ -19,5 +24,7 @@ mod tries;
 mod whole;
 
 pub use cell::McsCell;
+pub use kept::{Kept, KeptAlone};
+pub use rested::Rested;
 pub use states::{Alone, Armed, Behind, Entered, Leaving, Passing, Ready, Trying, Waiting};
 pub use word_rule::{Hold, Pass};

@@ -1,1 +1,2 @@
 pub mod TicketRule
+pub mod TicketAtOnce

@@ -18,6 +18,8 @@ pub mod LockLaws
 pub mod CallerSteps
 pub mod CallerFacts
 pub mod Acting
+pub mod AtOnce
+pub mod KeptSlots
 pub mod Dealing
 pub mod WholeCalls
 pub mod OrderedRuns

@@ -2,42 +2,9 @@
 use Rattle.std.proofs.Common.{◌≡◌, ◌≢◌, ◌⊎◌, inl, inr, ℕ, zero, suc, ◌<◌, ◌≤◌, ◌==◌, Bool, true, false, true≢false, not, cond, List, [], ◌∷◌, length, refl, sym, ap, subst, ◌∙◌, arith}
 use mathlib.Core.Option.{some}
 use lib.ListN.{get_elem?}
-use Rattle.event_log.specs.Distinct.{has}
-use Rattle.word_rule.specs.{declared.machine.step_done.StepDone.StepDone, declared.lock_kind.Stage.Stage, declared.lock_kind.Stage.TheVariants.{Idle, Ticket}, declared.lock_kind.TicketStage.TheVariants.Served, Line.{First, alone_with_it, leaving}, LockDefinition.{LockDefinition, LockState, IsState}, Locks.holding, StepKinds.ends_hold, Ticket.State.is_served}
+use Rattle.word_rule.specs.{declared.lock_kind.Stage.Stage, declared.lock_kind.Stage.TheVariants.{Idle, Ticket}, declared.lock_kind.TicketStage.TheVariants.Served, Line.{alone_with_it, leaving}, LockDefinition.{IsState, opening_state}, Locks.holding, StepKinds.ends_hold, TestAndSet.{TestAndSetState, turn_at, StandsAt, test_and_set, done_by, rounds, passed_in}}
 use Rattle.word_rule.proofs.{LineChanges.never, Lists.has_at, LockProgress.{OneOnAt, LockFairness, LockProgress}, LockStates.{in_cell, stands_at}, Moves.{moved_same, moved_else}}
 use Rattle.word_rule.specs.declared.machine.step_done.StepDone.TheVariants as steps
-
-abbrev State : Type 0
-State = LockState (Unit {0})
-
--- whoever comes to it while the object is at home takes it, and there is no line
-abbrev turn_at : State → ℕ → Bool → Stage → State × StepDone
-turn_at l i true Idle = (l, steps.Look false)
-turn_at l i false Idle = (record l { line = alone_with_it l.line i (Ticket (Served 0)) }, steps.Look true)
-turn_at l i out (Ticket (Served t)) = (record l { line = leaving l.line i }, steps.Serve)
-turn_at l i out q = (l, steps.Idle)
-
-abbrev StandsAt : List ℕ → Bool → ℕ → Stage → Type 0
-StandsAt cpus out x Idle = has x cpus ≡ false
-StandsAt cpus out x (Ticket (Served t)) = First cpus out x true
-StandsAt cpus out x q = ⊥
-
-abbrev pub test_and_set : LockDefinition
-test_and_set = record {
-  Extra = Unit {0};
-  opening = λ first. tt;
-  turn = λ l i. turn_at l i l.line.out (l.line.stage i);
-  attempt = λ l i seen. (l, []);
-  prepare = λ l i. l;
-  words = λ n l. [];
-  fits = λ n. true;
-  Stands = λ n cpus out x extra. StandsAt cpus out x;
-  KeepsExtra = λ n extra cpus. Unit {0};
-  erase = λ l. l;
-  served = λ extra. 0;
-  holding = is_served;
-  holder = λ ticket. Ticket (Served 0);
-}
 
 -- ---- it makes progress
 
@@ -58,7 +25,7 @@ on_at out Idle = not out
 on_at out (Ticket (Served t)) = true
 on_at out q = false
 
-module _ (l : State) (i : ℕ) where
+module _ (l : TestAndSetState) (i : ℕ) where
   others_by : (x : ℕ) → x ≢ i → (out : Bool) (q : Stage) → (turn_at l i out q).0.line.stage x ≡ l.line.stage x
   others_by x ne true Idle = refl
   others_by x ne false Idle = moved_else l.line.stage i (Ticket (Served 0)) x ne
@@ -83,8 +50,8 @@ module _ (l : State) (i : ℕ) where
   ended_by out (Ticket (Served t)) e = (refl, moved_same l.line.stage i Idle)
   ended_by out q e = never e
 
-module _ (n : ℕ) (l : State) (h : IsState test_and_set n l) where
-  -- while the object is at home each caller gets on, and while it is out the holder does
+module _ (n : ℕ) (l : TestAndSetState) (h : IsState test_and_set n l) where
+  -- while the object is at home each caller makes progress, and while it is out the holder does
   at_home : (i : ℕ) → i < n → l.line.out ≡ false → (q : Stage) → l.line.stage i ≡ q → on_at l.line.out q ≡ true
   at_home i below home Idle e = ap not home
   at_home i below home (Ticket (Served t)) e = refl
@@ -132,7 +99,7 @@ makes_progress = record {
 -- ---- and it isn't fair
 
 -- CPU 0 has the object, and CPU 1 wants it
-abbrev held : State
+abbrev held : TestAndSetState
 held = record { line = record { cpus = 0 ∷ []; out = true; stage = λ x. cond (x == 0) (Ticket (Served 0)) Idle }; extra = tt }
 
 held_is : IsState test_and_set 2 held
@@ -148,9 +115,42 @@ held_is = record {
     stood (suc zero) below = refl
     stood (suc (suc x)) below = absurd (omega (arith, below))
 
--- by fairness CPU 1 gets on, as it isn't in line; but its turn leaves it where it stood
+-- by fairness CPU 1 makes progress, as it isn't in line; but its turn changes nothing
 pub is_unfair : (p : LockProgress test_and_set 2) → LockFairness test_and_set 2 p → ⊥
 is_unfair p fair =
     let on = fair.outside 2 held 1 held_is (omega arith) refl in
     let nearer = p.nearer 2 held 1 held_is (omega arith) refl on refl in
     omega (arith, nearer)
+
+-- both CPUs are idle, and the object is at home
+record AtRest (l : TestAndSetState) : Type 0 where
+  home : l.line.out ≡ false
+  none : l.line.stage 0 ≡ Idle
+  other : l.line.stage 1 ≡ Idle
+
+one_not : (let n : ℕ = 1 in n) ≢ 0
+one_not e = absurd (omega (arith, e))
+
+-- so in each round CPU 0 gets the object, and CPU 1 never does
+passed : (n : ℕ) (l : TestAndSetState) → AtRest l → done_by test_and_set l (rounds n) ≡ passed_in n
+passed zero l h = refl
+passed (suc n) l h =
+    let served : Stage = Ticket (Served 0) in
+    let taken : TestAndSetState = record l { line = alone_with_it l.line 0 served } in
+    let gone : TestAndSetState = record taken { line = leaving taken.line 0 } in
+    let at_first : (test_and_set.turn l 0) ≡ (taken, steps.Look true) = ap (λ b. turn_at l 0 b (l.line.stage 0)) h.home ∙ ap (turn_at l 0 false) h.none in
+    let at_second : (test_and_set.turn taken 1) ≡ (taken, steps.Look false) = ap (turn_at taken 1 true) (moved_else l.line.stage 0 served 1 one_not ∙ h.other) in
+    let at_third : (test_and_set.turn taken 0) ≡ (gone, steps.Serve) = ap (turn_at taken 0 true) (moved_same l.line.stage 0 served) in
+    let again : AtRest gone = record {
+      home = refl;
+      none = moved_same taken.line.stage 0 Idle;
+      other = moved_else taken.line.stage 0 Idle 1 one_not ∙ (moved_else l.line.stage 0 served 1 one_not ∙ h.other);
+    } in
+    let rest = passed n gone again in
+    ap (λ p. let q = test_and_set.turn p.0 1 in let r = test_and_set.turn q.0 0 in (0, p.1) ∷ (1, q.1) ∷ (0, r.1) ∷ done_by test_and_set r.0 (rounds n)) at_first
+    ∙ (ap (λ p. (0, steps.Look true) ∷ (1, p.1) ∷ (0, (test_and_set.turn p.0 0).1) ∷ done_by test_and_set (test_and_set.turn p.0 0).0 (rounds n)) at_second
+    ∙ (ap (λ p. (0, steps.Look true) ∷ (1, steps.Look false) ∷ (0, p.1) ∷ done_by test_and_set p.0 (rounds n)) at_third
+    ∙ ap (λ l. (0, steps.Look true) ∷ (1, steps.Look false) ∷ (0, steps.Serve) ∷ l) rest))
+
+pub passed_from_opening : (first n : ℕ) → done_by test_and_set (opening_state test_and_set first) (rounds n) ≡ passed_in n
+passed_from_opening first n = passed n (opening_state test_and_set first) (record { home = refl; none = refl; other = refl })

@@ -1,5 +1,5 @@
-//! The operations on a cell's table. Each step of the lock there is a turn of the lock's definition, or belongs to a try, or reads
-//! a word; there is no other way to step.
+//! The operations on a cell's table. Each of these is a turn of the lock's definition, belongs to a try, or reads a word. Those of
+//! `at_once` are two turns, a turn that also prepares a try, or give a try up; there is no other way to step.
 
 ghost use Rattle.std.specs.Prelude.{ℕ, ◌+◌, ◌-◌, ◌%◌, ◌^◌, ◌==◌};
 ghost use prog.Atomic.{either};

@@ -1,0 +1,5 @@
+use Rattle.std.proofs.Common.{rules}
+use Rattle.word_rule.proofs.lock_table.LockTable.withdraw.Goals as goal
+
+pub load-requires : goal.load-requires
+load-requires g c = (search rules, search rules, λ s r len there small. let x = c.requires.2 s r len there small in (x.0, x.1, x.2, x.3, x.4))
