@@ -1,6 +1,5 @@
 -- One more caller joins those that have joined already.
-use Rattle.std.proofs.Common.{◌≡◌, ◌⊎◌, inl, inr, ⊎_elim, ℕ, ◌+◌, ◌<◌, ◌≤◌, true, List, [], ◌∷◌, ◌++◌, length, map, take, drop, get_or, refl, sym, ◌∙◌, ap, subst, arith, length-append, slice_get, Some}
-use Rattle.std.proofs.lemmas.Option.{slice_get_within}
+use Rattle.std.proofs.{Common.{◌≡◌, ◌⊎◌, ⊎_elim, ℕ, ◌+◌, ◌<◌, ◌≤◌, true, List, [], ◌∷◌, ◌++◌, length, map, take, get_or, refl, sym, ◌∙◌, ap, subst, arith, length-append, slice_get, Some}, lemmas.Option.slice_get_within}
 use Rattle.event_log.specs.{declared.object.SeqObject.Ghosts, declared.event.Event.Event}
 use Rattle.event_log.proofs.Lists.{get_push}
 use Rattle.word_rule.specs.{declared.view.TraceStep.TraceStep, Cell.{PassView, IsCaller}, LockRuns.Extends}
@@ -72,20 +71,20 @@ module _ {O P C R : Type 0} (meaning : Ghosts O P C R) where
               ⊎_elim
               (λ old.
               let d_is : slice_get ds x ≡ Some n = ⊎_elim (λ e. e)
-                  (λ same. absurd (let lt = slice_get_within ps x q old in let is = same.0 in omega (arith, lt, is, long)))
-                  (get_push ds d x n at_done) in
+              (λ same. absurd (let lt = slice_get_within ps x q old in let is = same.0 in omega (arith, lt, is, long)))
+              (get_push ds d x n at_done) in
               joins_further (view q) (view others) (view last) (run_of q) (run_of others) (run_of last) cs n (are x q at_pass)
-                  (all.each x q cs n old at_calls d_is) j e within)
+              (all.each x q cs n old at_calls d_is) j e within)
               (λ new.
               let p_is : p ≡ q = new.1 in
               let c_is : calls ≡ cs = one_of calls cs (slice_get scripts x) (ap (slice_get scripts) new.0 ∙ at) at_calls in
               let d_is : d ≡ n = ⊎_elim
-                  (λ old. absurd (let lt = slice_get_within ds x n old in let is = new.0 in omega (arith, lt, is, long)))
-                  (λ same. same.1) (get_push ds d x n at_done) in
+              (λ old. absurd (let lt = slice_get_within ds x n old in let is = new.0 in omega (arith, lt, is, long)))
+              (λ same. same.1) (get_push ds d x n at_done) in
               subst (λ z. HasJoined meaning (view z) (run_of z) cs n (view last) (run_of last)) p_is
               (subst (λ z. HasJoined meaning (view p) (run_of p) z n (view last) (run_of last)) c_is
               (subst (λ z. HasJoined meaning (view p) (run_of p) calls z (view last) (run_of last)) d_is
               (joins_further (view p) (view mine) (view last) (run_of p) (run_of mine) (run_of last) calls d
-                  (subst (λ z. IsCaller (view z).caller) (sym p_is) (are x q at_pass)) h k f within))))
+              (subst (λ z. IsCaller (view z).caller) (sym p_is) (are x q at_pass)) h k f within))))
               (get_push ps p x q at_pass);
         }

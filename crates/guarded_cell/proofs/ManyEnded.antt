@@ -1,10 +1,9 @@
 -- Callers that began with the passes of a new cell have joined, and the last pass ended the cell.
-use Rattle.std.proofs.Common.{◌≡◌, ℕ, ◌<◌, ◌≤◌, true, ◌==◌, if◌then◌else◌, List, [], ◌∷◌, ◌++◌, length, map, take, drop, refl, sym, ◌∙◌, ap, subst, arith, slice_get, Some}
-use Rattle.std.proofs.lemmas.{Bool.eq-eqb, Option.slice_get_within}
+use Rattle.std.proofs.{Common.{◌≡◌, ℕ, ◌<◌, ◌==◌, if◌then◌else◌, List, [], length, map, drop, refl, sym, ◌∙◌, ap, subst, arith, slice_get, Some}, lemmas.{Bool.eq-eqb, Option.slice_get_within}}
 use Rattle.std.specs.Prelude.{unwrap_or}
 use Rattle.event_log.specs.{declared.object.SeqObject.Ghosts, declared.event.Event.Event, declared.entry.Todo.Todo, Log.Begins, History.History}
 use Rattle.event_log.proofs.Lists.{some_at}
-use Rattle.word_rule.specs.{declared.view.TraceStep.TraceStep, Cell.{Cell, EachAt, PassView, Lawful, IsPassView, OwnsAll, opening_pass, stored}, LockRuns.{HasRun, arrivals_in, endings_in}, Replay.{AllDoRun, DoesRun, entries_for, todo_of}}
+use Rattle.word_rule.specs.{declared.view.TraceStep.TraceStep, Cell.{Cell, PassView, Lawful, IsPassView, OwnsAll, opening_pass, stored}, LockRuns.{HasRun, arrivals_in, endings_in}, Replay.{AllDoRun, DoesRun, todo_of}}
 use Rattle.word_rule.proofs.{EventOrder.events_begin, HoldsPlayed.holds_played, Replays.is_replay}
 use Rattle.guarded_cell.specs.{Held.holds_of, ManyCallers.{HasJoined, AllHaveJoined, AreCalledBy, AreCarriedOut, HasOrderedRun, holds_at}}
 
@@ -24,8 +23,8 @@ module _ {S O P C R : Type 0} (meaning : Ghosts O P C R) (view : S → PassView 
       let p = some_at ps k (omega (arith, lt, wide)) in
       let is = new k p.0 p.1 in
       subst (λ z. HasJoined meaning z [] calls n (view last) (run_of last)) is.0
-          (subst (λ z. HasJoined meaning (view p.0) z calls n (view last) (run_of last)) is.1
-          (all.each k p.0 calls n p.1 at_calls at_done))
+      (subst (λ z. HasJoined meaning (view p.0) z calls n (view last) (run_of last)) is.1
+      (all.each k p.0 calls n p.1 at_calls at_done))
 
   calls_at : (k : ℕ) → k < cell.numbers → (calls : List C) × (slice_get scripts k ≡ Some calls)
   calls_at k lt = some_at scripts k (omega (arith, lt, long))
@@ -76,17 +75,17 @@ module _ {S O P C R : Type 0} (meaning : Ghosts O P C R) (view : S → PassView 
         let c = calls_at k lt in
         let n = done_at k lt in
         let held = holds_played meaning (opening_pass cell k).caller k (eq-eqb k k refl) [] (run_of last)
-            (holds_of c.0 n.0) [] l.held refl in
+        (holds_of c.0 n.0) [] l.held refl in
         let is : holds_at scripts ds k ≡ holds_of c.0 n.0 =
-            ap (λ o. holds_of (unwrap_or o []) (unwrap_or (slice_get ds k) 0)) c.1 ∙ ap (λ o. holds_of c.0 (unwrap_or o 0)) n.1 in
+        ap (λ o. holds_of (unwrap_or o []) (unwrap_or (slice_get ds k) 0)) c.1 ∙ ap (λ o. holds_of c.0 (unwrap_or o 0)) n.1 in
         subst (λ s. DoesRun meaning k cell.limit cell.opening (run_of last) s [])
-            (if_same k (map todo_of (holds_of c.0 n.0)) [] ∙ ap (map todo_of) (sym is)) held
+        (if_same k (map todo_of (holds_of c.0 n.0)) [] ∙ ap (map todo_of) (sym is)) held
 
     pub ordered_run : HasRun (view last).caller.cell (view last).seen (run_of last)
         → endings_in (run_of last) ≡ arrivals_in (run_of last) → HasOrderedRun meaning cell scripts ds h.log
     ordered_run has in_order =
         let ran : HasRun cell h.log (run_of last) = subst (λ l. HasRun cell l (run_of last)) (sym log_is)
-            (subst (λ z. HasRun z (view last).seen (run_of last)) same_cell has) in
+        (subst (λ z. HasRun z (view last).seen (run_of last)) same_cell has) in
         record {
           run = run_of last;
           ran = ran;

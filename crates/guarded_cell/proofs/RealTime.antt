@@ -1,5 +1,5 @@
 -- Of two calls in real time, the first one's event precedes the other's in the log.
-use Rattle.std.proofs.Common.{◌≡◌, ℕ, ◌<◌, ◌≤◌, List, [], ◌∷◌, ◌++◌, length, map, drop, refl, sym, ◌∙◌, ap, subst, arith, append_assoc, length-append, Result, Ok, Err, IfOk}
+use Rattle.std.proofs.Common.{◌≡◌, ◌<◌, List, [], ◌∷◌, ◌++◌, length, drop, sym, ◌∙◌, ap, subst, arith, append_assoc, Result, Ok, Err, IfOk}
 use Rattle.event_log.specs.{declared.object.SeqObject.Ghosts, declared.event.Event.Event, declared.event.Steps.Steps, declared.logged.NoRoom.NoRoom, Log.{Begins, one_step}}
 use Rattle.event_log.proofs.Beginnings.{begins_rest, begins_self}
 use Rattle.word_rule.specs.{Cell.{Caller, PassView}, Answered.IsAnswered}
@@ -30,7 +30,7 @@ module _ {O P C R : Type 0} (meaning : Ghosts O P C R) where
       let one : second_after.seen ≡ second.seen ++ more = begins_rest second.seen second_after.seen h.then.begins in
       let ends : second_after.seen ≡ h.then.front ++ y ∷ [] = h.then.last in
       let l = last_of second.seen more h.then.front y (sym one ∙ ends)
-          (subst (λ n. length second.seen < n) (ap length ends) (longer meaning second second_after seconds b h.then)) in
+      (subst (λ n. length second.seen < n) (ap length ends) (longer meaning second second_after seconds b h.then)) in
       let two : second.seen ≡ first_after.seen ++ between = begins_rest first_after.seen second.seen h.told in
       let three : first_after.seen ≡ h.answered.front ++ x ∷ [] = h.answered.last in
       let four : log ≡ second_after.seen ++ rest = begins_rest second_after.seen log h.further in
@@ -55,8 +55,8 @@ module _ {O P C R : Type 0} (meaning : Ghosts O P C R) where
       → IfOk r (λ v. IfOk s (λ w. Precedes (event_of first (one_step c v)) (event_of original (one_step d w)) second_after.seen))
   calls_in_turn first first_after original second second_after c d (Ok v) (Ok w) answered told same then =
       subst (λ (z : Caller O P C R). Precedes (event_of first (one_step c v))
-          (record { cpu = z.acting; steps = one_step d w }) second_after.seen) same
+      (record { cpu = z.acting; steps = one_step d w }) second_after.seen) same
       (came_before first first_after (c ∷ []) (one_step c v) second second_after (d ∷ []) (one_step d w) second_after.seen
-          (record { answered = answered; told = told; then = then; further = begins_self second_after.seen }))
+      (record { answered = answered; told = told; then = then; further = begins_self second_after.seen }))
   calls_in_turn first first_after original second second_after c d (Ok v) (Err e) answered told same then = tt
   calls_in_turn first first_after original second second_after c d (Err e) s answered told same then = tt

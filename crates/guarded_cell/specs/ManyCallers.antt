@@ -1,7 +1,7 @@
 -- Any number of callers of one cell, each with its own list of calls: the log and the lock's run at the end.
 use Rattle.std.specs.Prelude.{◌≡◌, ℕ, ◌<◌, ◌≤◌, true, List, [], ◌∷◌, ◌++◌, map, length, take, drop, slice_get, Some, unwrap_or}
-use Rattle.event_log.specs.{declared.object.SeqObject.Ghosts, declared.event.Event.Event, declared.entry.Todo.Todo, Log.Begins, History.History}
-use Rattle.word_rule.specs.{declared.view.TraceStep.TraceStep, Cell.{Cell, PassView, Lawful, opening_pass, stored}, LockRuns.{HasRun, arrivals_in, endings_in}, Replay.{IsReplay, todo_of}}
+use Rattle.event_log.specs.{declared.object.SeqObject.Ghosts, declared.event.Event.Event, Log.Begins, History.History}
+use Rattle.word_rule.specs.{declared.view.TraceStep.TraceStep, Cell.{Cell, PassView, Lawful, stored}, LockRuns.{HasRun, arrivals_in, endings_in}, Replay.{IsReplay, todo_of}}
 use Rattle.guarded_cell.specs.{Calls.{asked_by, HasEachCall}, Held.{HasHeldFor, holds_of}}
 
 module _ {O P C R : Type 0} (meaning : Ghosts O P C R) where

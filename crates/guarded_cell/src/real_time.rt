@@ -1,6 +1,6 @@
 //! The order of calls in real time, where the second caller has seen the first one's log.
 
-ghost use Rattle.std.specs.Prelude.{◌≡◌, List, IfOk};
+ghost use Rattle.std.specs.Prelude.{List, IfOk};
 ghost use Rattle.event_log.specs.{declared.event.Event.Event, declared.event.Steps.Steps, Log.one_step};
 ghost use Rattle.word_rule.specs.Cell.{PassView};
 ghost use Rattle.guarded_cell.specs.RealTime.{Precedes, ReturnedBefore, event_of};
