@@ -36,8 +36,8 @@ module _ {O P C R : Type 0} where
     pub full : done < length calls → length log ≡ cell.limit
 
 module _ {O P C R : Type 0} (meaning : Ghosts O P C R) where
-  -- the callers of a cell, CPU k with the list of calls at index k, ended the cell: one lawful log, which begins with the log at opening and
-  -- has each caller's calls and no others, and the object's state after it
+  -- the callers of a cell, CPU k with the list of calls at index k, ended the cell: one lawful log, which begins with the log at opening
+  -- and has each caller's calls and no others, and the object's state after it
   pub record AreCarriedOut (cell : Cell O P C R) (scripts : List (List C)) (done : List ℕ) (h : History O P C R) : Type 0 where
     pub valid : Lawful meaning cell h.log
     pub replayed : h ≡ stored meaning cell h.log

@@ -16,8 +16,8 @@ module _ {O P C R : Type 0} where
   event_of before steps = record { cpu = before.caller.acting; steps = steps }
 
 module _ {O P C R : Type 0} (meaning : Ghosts O P C R) where
-  -- the first caller's calls were answered. Then the second caller, which had seen the first one's log at that time, made its calls, and they
-  -- were answered. The log begins with the one that the second caller saw at its end
+  -- the first caller's calls were answered. Then the second caller, which had seen the first one's log at that time, made its calls,
+  -- and they were answered. The log begins with the one that the second caller saw at its end
   pub record ReturnedBefore (first first_after : PassView O P C R) (firsts : List C) (first_steps : Steps O P C R)
       (second second_after : PassView O P C R) (seconds : List C) (second_steps : Steps O P C R) (log : List (Event O P C R)) : Type 0 where
     pub answered : IsAnswered meaning first firsts first_steps first_after
