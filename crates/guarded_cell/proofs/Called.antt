@@ -6,7 +6,7 @@ use Rattle.word_rule.specs.{Cell.{Caller, PassView, Grows, Lawful, IsPassView, I
 use Rattle.guarded_cell.specs.Calls.{asked_by, HasEachCall, IsEnded}
 
 -- a list that is full, and one that begins with it and isn't longer than the limit
-full_longer : {E : Type 0} (a b : List E) (limit : ℕ) → Begins a b → length a ≡ limit → length b ≤ limit → length b ≡ limit
+pub full_longer : {E : Type 0} (a b : List E) (limit : ℕ) → Begins a b → length a ≡ limit → length b ≤ limit → length b ≡ limit
 full_longer a b limit begins full within =
     let total : length b ≡ length a + length (drop (length a) b) = ap length (begins_rest a b begins) ∙ length-append a (drop (length a) b) in
     omega arith

@@ -1,6 +1,5 @@
 pub mod Additions
 pub mod Called
-pub mod QueueSends
 pub mod Stays
 pub mod Workers
 pub mod SoundRuns
@@ -8,4 +7,4 @@ pub mod Joins
 pub mod HeldCalls
 pub mod ManyCallers
 pub mod ManyEnded
-pub mod InTime
+pub mod RealTime

@@ -20,7 +20,7 @@ module _ {O P C R : Type 0} where
 
 module _ {O P C R : Type 0} (meaning : Ghosts O P C R) where
   -- a caller that was answered sees a longer log
-  longer : (before after : PassView O P C R) (cs : List C) (s : Steps O P C R) → IsAnswered meaning before cs s after → length before.seen < length after.seen
+  pub longer : (before after : PassView O P C R) (cs : List C) (s : Steps O P C R) → IsAnswered meaning before cs s after → length before.seen < length after.seen
   longer before after cs s a =
       let k : ℕ = before.caller.acting in
       let since = drop (length before.seen) after.seen in

@@ -6,5 +6,5 @@ pub mod Workers
 pub mod Runs
 pub mod Tries
 pub mod Held
-pub mod Many
-pub mod InTime
+pub mod ManyCallers
+pub mod RealTime

@@ -1,19 +1,19 @@
-//! Cells of both kinds: whole calls, tries, several groups under one hold, and two threads.
+//! Cells of both kinds: whole calls, tries, and several groups under one hold.
 
-ghost use Rattle.std.specs.Prelude.{◌≡◌, [], IfOk};
-ghost use Rattle.word_rule.specs.{Cell.OwnTogether, Passes.{view_of_pass, run_of_pass}};
+ghost use Rattle.std.specs.Prelude.{IfOk};
+ghost use Rattle.word_rule.specs.{Cell.OwnTogether, Passes.view_of_pass};
 ghost use Rattle.guarded_cell.specs.Kinds.{IsPassOf};
 
 use crate::locks::calls_in_turn;
 use arrayvec::ArrayVec;
 use event_log::{Logged, NoRoom};
-use guarded_cell::{AnyCell, AnyPass, Declined, call_all, two_are_replayed};
+use guarded_cell::{AnyCell, AnyPass, Declined, call_all, one_after_other};
 use shared_queue::{QueueCall as Call, QueueReply as Reply, ThreadQueue};
 use sound_run::LockKind;
 use std::alloc::Global;
 use std::test::Fail;
 
-const KINDS: [LockKind; 2] = [LockKind::Ticket, LockKind::Mcs];
+pub const KINDS: [LockKind; 2] = [LockKind::Ticket, LockKind::Mcs];
 
 type Pass = AnyPass<ThreadQueue>;
 
@@ -25,7 +25,6 @@ pub fn cell_of_two(alloc: Global, kind: LockKind) -> Result<Two, Fail>
     ensures zero { IfOk result (λ r. IsPassOf r.0 r.1) }
     ensures one { IfOk result (λ r. IsPassOf r.0 r.2) }
     ensures all { IfOk result (λ r. OwnTogether (view_of_pass r.1).caller (view_of_pass r.2).caller) }
-    ensures new { IfOk result (λ r. (run_of_pass r.1 ≡ []) × (run_of_pass r.2 ≡ [])) }
 {
     let queue = Logged::<ThreadQueue>::open(alloc, 8, 3)?;
     let Ok((cell, mut passes)) = AnyCell::open(alloc, kind, queue, 2) else {
@@ -81,12 +80,17 @@ fn two_callers_on_one_thread(rt: HostRuntime) -> Result<(), Fail> {
 }
 
 #[test]
-fn what_two_threads_did_is_replayed(rt: HostRuntime) -> Result<(), Fail> {
+fn one_call_after_another(rt: HostRuntime) -> Result<(), Fail> {
     for kind in KINDS {
         let (cell, zero, one) = cell_of_two(rt.alloc(), kind)?;
-        let (puts, takes) = ([Call::Enq(3), Call::Enq(4)], [Call::Deq]);
-        let (queue, put, taken) = two_are_replayed(&rt, cell, (zero, one), &puts, &takes);
-        assert_eq!(rt; (put, taken, queue.log().len()), (2, 1, 3));
+        let ((_, put), (_, taken)) = one_after_other(
+            &rt,
+            &cell,
+            (zero, one),
+            &Call::Enq(3),
+            &Call::Deq,
+        );
+        assert_eq!(rt; (put, taken), (Ok(Reply::Ok), Ok(Reply::Thread(3))));
     }
     Ok(())
 }

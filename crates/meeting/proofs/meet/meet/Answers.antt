@@ -1,15 +1,15 @@
-use denote.{Exit.yes, Param.Send.{param_send, arg_send}}
+use denote.{Exit.yes, Param.Send.{param_send, arg_send, sendable}}
 use Rattle.std.proofs.Common.{rules, ◌≡◌, Some, slice_get, length, take, ap, ◌∙◌, subst, arith}
+use Rattle.shared_queue.proofs.{queue.ThreadQueue.TheSendSync.{the_send as queue_send}, call.QueueCall.TheSendSync.{the_send as call_send}, call.QueueReply.TheSendSync.{the_send as reply_send}}
 use Rattle.shared_queue.specs.contracts.queue.ThreadQueueSeqObject.TheImpl.{ghosts}
 use Rattle.word_rule.specs.{Cell.first_pass, Passes.view_of_pass}
-use Rattle.word_rule.proofs.Owners.{own_both}
+use Rattle.word_rule.proofs.{Owners.own_both, Sends.pass_send}
 use Rattle.guarded_cell.specs.Calls.{IsEnded}
-use Rattle.guarded_cell.proofs.QueueSends.{queue_pass_send}
 use Rattle.meeting.proofs.Counts.{all_done, ended_count}
 use Rattle.meeting.proofs.meet.meet.Goals as goal
 
 pub two_callers-left-requires-send-C-Pass : goal.two_callers-left-requires-send-C-Pass
-two_callers-left-requires-send-C-Pass g c κs within = param_send _ _ (arg_send _ yes _ (queue_pass_send _ _ _ _ _))
+two_callers-left-requires-send-C-Pass g c κs within = param_send _ _ (arg_send _ yes _ (pass_send _ _ _ _ _ _ _ _ _ queue_send (search sendable) call_send reply_send))
 
 pub two_callers-left-requires-clause-first : goal.two_callers-left-requires-clause-first
 two_callers-left-requires-clause-first g c κs within =

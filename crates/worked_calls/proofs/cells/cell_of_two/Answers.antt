@@ -7,6 +7,3 @@ pub returns-clause-all : goal.returns-clause-all
 returns-clause-all c =
     own_both c.in_ok-queue.queue (view_of_pass c.unwrap-zero.result) (view_of_pass c.unwrap-one.result)
     (c.in-Ok.ensures.passes 0 c.unwrap-zero.result (search rules)).1 (c.in-Ok.ensures.passes 1 c.unwrap-one.result (search rules)).1
-
-pub returns-clause-new : goal.returns-clause-new
-returns-clause-new c = (c.in-Ok.ensures.runs 0 c.unwrap-zero.result (search rules), c.in-Ok.ensures.runs 1 c.unwrap-one.result (search rules))

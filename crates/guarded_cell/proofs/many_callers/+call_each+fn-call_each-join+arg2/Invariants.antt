@@ -1,5 +1,5 @@
 use Rattle.std.proofs.Common.{vec_len}
-use Rattle.guarded_cell.proofs.many.+call_each+fn-call_each-join+arg2.Given as goal
+use Rattle.guarded_cell.proofs.many_callers.+call_each+fn-call_each-join+arg2.Given as goal
 
 abbrev pub decreases-call_each : goal.decreases-call_each
 decreases-call_each g l = vec_len l.passes

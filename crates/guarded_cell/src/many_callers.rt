@@ -1,8 +1,8 @@
-//! Any number of callers, each on a thread of its own, from a new cell to its end.
+//! Any number of callers of one cell, each on a thread of its own.
 
 ghost use Rattle.std.specs.{Prelude.{◌≡◌, ◌<◌, ◌≤◌, [], length, map, vec_len, vec_capacity}, Thread.IsSync};
 ghost use Rattle.word_rule.specs.Cell.{EachAt};
-ghost use Rattle.guarded_cell.specs.{Calls.HasDoneCalls, Held.HasHeldFor, Many.{AllHaveLeft}};
+ghost use Rattle.guarded_cell.specs.{Calls.HasDoneCalls, Held.HasHeldFor, ManyCallers.{AllHaveJoined}};
 
 use crate::callers::call_all;
 use event_log::SeqObject;
@@ -11,8 +11,9 @@ use std::thread;
 use std::thread::Threads;
 use word_rule::LockCell;
 
-/// The callers do their calls, the last on this thread and each of the others on a new one, or after those behind it where no
-/// thread can be made, and become one. The numbers are those of the calls that each has done.
+/// Lets the callers do their calls, the last one on this thread and each of the others on a new one, and joins their passes. If no
+/// thread can be made, this thread does the calls one caller after another. Returns the joined pass, and how many calls each caller has
+/// done. `done` has room for these counts.
 pub fn call_each<O: SeqObject + Send, C: LockCell<O> + Sync, R: Threads + Wait + Sync>(
     rt: &R,
     cell: &C,
@@ -30,7 +31,8 @@ where
     requires scripts { vec_len passes ≤ length scripts.now }
     requires room { (done.items ≡ []) × (vec_len passes ≤ vec_capacity done) }
     ensures pass { C.is_pass_of cell.now result.0 }
-    ensures left { AllHaveLeft O.SeqObject C.pass_view C.pass_run passes.items (map (λ s. s.items) scripts.now) result.1.items result.0 }
+    ensures joined { AllHaveJoined O.SeqObject C.pass_view C.pass_run passes.items (map (λ s. s.items) scripts.now)
+        result.1.items result.0 }
     ensures room { vec_capacity result.1 ≡ vec_capacity done }
 {
     let mut passes = passes;
@@ -52,14 +54,16 @@ where
             requires scripts { vec_len passes ≤ length scripts.now }
             requires room { (done.items ≡ []) × (vec_len passes ≤ vec_capacity done) }
             ensures pass { C.is_pass_of cell.entry.now result.0 }
-            ensures left { AllHaveLeft O.SeqObject C.pass_view C.pass_run passes.items (map (λ s. s.items) scripts.entry.now) result.1.items result.0 }
+            ensures joined { AllHaveJoined O.SeqObject C.pass_view C.pass_run passes.items (map (λ s. s.items) scripts.entry.now)
+                result.1.items result.0 }
             ensures room { vec_capacity result.1 ≡ vec_capacity done }
         { call_each(rt, cell, passes, scripts, done) },
         move || -> (C::Pass, usize)
             requires pass { C.is_pass_of cell.now pass }
             ensures pass { C.is_pass_of cell.entry.now result.0 }
             ensures done { HasDoneCalls (C.pass_view pass) calls.entry.now result.1 (C.pass_view result.0) }
-            ensures run { HasHeldFor O.SeqObject (C.pass_view pass).caller (C.pass_run pass) calls.entry.now result.1 (C.pass_run result.0) }
+            ensures run { HasHeldFor O.SeqObject (C.pass_view pass).caller (C.pass_run pass) calls.entry.now result.1
+                (C.pass_run result.0) }
         { call_all(rt, cell, pass, calls) },
     );
     let mut counts = counts;
