@@ -1,14 +1,14 @@
-// A kernel in small: a buddy allocator with free lists, and a pipe, each behind a ticket lock. Threads stand for its CPUs. It
-// notes what they do by include/mc2_custom_note.h and prints the record 3, which custom.c judges by the models of models.h. Nothing
-// is proved.
+// A small kernel with a buddy allocator with free lists, and a pipe, each behind a ticket lock. Threads act as its CPUs. It records
+// what they do by include/mc2_custom_note.h, and prints the record 3, which custom.c judges by the models of models.h. Nothing is
+// proved.
 //
 //     cc -std=c11 -O2 -pthread -Iinclude -o /tmp/kernel examples/custom/kernel.c
 //     /tmp/kernel [FAULT [CPUS [CALLS]]]
 //
-// FAULT is right, which is none (the default), or what is planted:
-//     early  the pipe's lock is let go before the last byte is moved
-//     drops  every 40th block that is given back is lost
-// CPUS are 2 to 64 (4), and CALLS each CPU's calls, 1 to 1,000,000 (200). The status is 0, 2 for wrong words, and 3 where
+// FAULT is right (no fault, the default), or a fault to plant:
+//     early  the pipe's lock is released before the last byte is moved
+//     drops  every 40th block that is freed is lost
+// CPUS is 2 to 64 (4), and CALLS the calls of each CPU, 1 to 1,000,000 (200). The status is 0, 2 for wrong words, and 3 where
 // something is refused.
 #define _POSIX_C_SOURCE 200809L
 #include "mc2_custom_note.h"
@@ -29,12 +29,12 @@ struct lock {
     atomic_uint next, served;
 };
 
-// A block's order stands at its first page while it is free, and else -1. What is given back last is given first.
+// `order` has a block's order at its first page while it is free, and -1 otherwise. The block that was freed last is allocated first.
 static struct {
     struct lock lock;
     int head[HEIGHT + 1], link[PAGES];
     signed char order[PAGES];
-    unsigned left, given_back;
+    unsigned left, freed;
 } zone;
 
 static struct {
@@ -43,7 +43,7 @@ static struct {
     _Atomic unsigned char bytes[BYTES];
 } ring;
 
-// A CPU, with the blocks that it has.
+// A CPU, with the blocks that it has allocated.
 struct cpu {
     unsigned number, held;
     int pages[MOST_HELD], orders[MOST_HELD];
@@ -51,11 +51,11 @@ struct cpu {
 };
 
 static struct mc2_notes notes[MOST_CPUS];
-static struct mc2_sequence turns[OBJECTS];
+static struct mc2_sequence sequences[OBJECTS];
 static struct cpu all[MOST_CPUS];
 static unsigned cpus = 4, calls = 200;
 static enum fault fault;
-// How far the opening has come.
+// The stage of the opening.
 static atomic_uint stage;
 
 static void refuse(const char *what, int status) {
@@ -74,9 +74,9 @@ static void await(unsigned wanted) {
 }
 
 static uint64_t acquire(struct lock *lock) {
-    unsigned own = atomic_fetch_add(&lock->next, 1);
+    unsigned ticket = atomic_fetch_add(&lock->next, 1);
     uint64_t looks = 1;
-    for (; atomic_load(&lock->served) != own; looks++)
+    for (; atomic_load(&lock->served) != ticket; looks++)
         sched_yield();
     return looks;
 }
@@ -126,16 +126,16 @@ static void buddy_free(int page, int order) {
         unlink_block(page ^ (1 << order));
         page &= ~(1 << order);
     }
-    if (fault != DROPS || ++zone.given_back % LOST_EACH != 0)
+    if (fault != DROPS || ++zone.freed % LOST_EACH != 0)
         push(page, order);
 }
 
-// A block is asked for, and then how many pages are left, which isn't done if there was none.
-static void ask_for(struct cpu *cpu, int order) {
+// Allocates a block, and asks how many pages are left, which isn't done if there was no block.
+static void allocate(struct cpu *cpu, int order) {
     uint64_t looks = acquire(&zone.lock);
     int page = buddy_alloc(order);
     unsigned left = zone.left;
-    uint32_t turn = mc2_next_custom_seq(&turns[ZONE], &notes[cpu->number]);
+    uint32_t seq = mc2_next_seq(&sequences[ZONE], &notes[cpu->number]);
     release(&zone.lock);
     struct mc2_term_step steps[] = {{mc2_term_of(ALLOC, 1, (uint64_t)order, 0), mc2_term_of(NONE, 0, 0, 0)},
                                       {mc2_term_of(LEFT, 0, 0, 0), mc2_term_of(COUNT, 1, left, 0)}};
@@ -144,29 +144,29 @@ static void ask_for(struct cpu *cpu, int order) {
         cpu->pages[cpu->held] = page;
         cpu->orders[cpu->held++] = order;
     }
-    must(mc2_note_custom(&notes[cpu->number], ZONE, turn, looks, steps, 2, page >= 0 ? 2 : 1));
+    must(mc2_note_custom(&notes[cpu->number], ZONE, seq, looks, steps, 2, page >= 0 ? 2 : 1));
 }
 
-static void give_back(struct cpu *cpu) {
+static void release_block(struct cpu *cpu) {
     int page = cpu->pages[--cpu->held];
     uint64_t looks = acquire(&zone.lock);
     buddy_free(page, cpu->orders[cpu->held]);
-    uint32_t turn = mc2_next_custom_seq(&turns[ZONE], &notes[cpu->number]);
+    uint32_t seq = mc2_next_seq(&sequences[ZONE], &notes[cpu->number]);
     release(&zone.lock);
     struct mc2_term_step step = {mc2_term_of(FREE, 1, (uint64_t)page, 0), mc2_term_of(OK, 0, 0, 0)};
-    must(mc2_note_custom(&notes[cpu->number], ZONE, turn, looks, &step, 1, 1));
+    must(mc2_note_custom(&notes[cpu->number], ZONE, seq, looks, &step, 1, 1));
 }
 
 // ---- The pipe
 
-// A write or a read of so many bytes, of which at most that part is moved.
+// A write or a read of `wanted` bytes, of which at most `part` are moved.
 struct transfer {
     bool writes, lets_in;
     unsigned byte, wanted, part, done;
     uint64_t sum;
 };
 
-// With the fault the lock is let go before the last byte, and in the opening another CPU comes in meanwhile.
+// With the fault the lock is released before the last byte, and in the opening another CPU comes in then.
 static void release_early(const struct transfer *it) {
     release(&ring.lock);
     if (it->lets_in) {
@@ -195,7 +195,7 @@ static void move(struct transfer *it) {
 
 static void do_transfer(const struct cpu *cpu, struct transfer *it) {
     uint64_t looks = acquire(&ring.lock);
-    uint32_t turn = mc2_next_custom_seq(&turns[PIPE], &notes[cpu->number]);
+    uint32_t seq = mc2_next_seq(&sequences[PIPE], &notes[cpu->number]);
     move(it);
     if (fault != EARLY || it->done == 0)
         release(&ring.lock);
@@ -206,7 +206,7 @@ static void do_transfer(const struct cpu *cpu, struct transfer *it) {
         step.reply = it->done > 0 ? mc2_term_of(WROTE, 1, it->done, 0) : mc2_term_of(FULL, 0, 0, 0);
     else if (it->done > 0)
         step.reply = mc2_term_of(GOT, 2, it->done, it->sum);
-    must(mc2_note_custom(&notes[cpu->number], PIPE, turn, looks, &step, 1, 1));
+    must(mc2_note_custom(&notes[cpu->number], PIPE, seq, looks, &step, 1, 1));
 }
 
 // CPUs with even numbers write, the others read.
@@ -218,8 +218,8 @@ static struct transfer any_transfer(struct cpu *cpu) {
 
 // ---- The CPUs
 
-// What is done before all else, so that the fault `early` shows in each run: CPU 0 writes 4 bytes and CPU 1 reads. With the
-// fault it reads while the last byte of those isn't there.
+// The first calls of CPUs 0 and 1, so that the fault `early` always shows: CPU 0 writes 4 bytes, and CPU 1 reads. With the fault it
+// reads before the last of them is written.
 static void do_opening(struct cpu *cpu) {
     struct transfer writes = {.writes = true, .lets_in = true, .byte = 10, .wanted = 4, .part = 4};
     struct transfer reads = {.wanted = 4, .part = 4};
@@ -239,9 +239,9 @@ static void do_one(struct cpu *cpu) {
     if (below(2, &cpu->seed))
         do_transfer(cpu, &transfer);
     else if (cpu->held == MOST_HELD || (cpu->held > 0 && below(2, &cpu->seed)))
-        give_back(cpu);
+        release_block(cpu);
     else
-        ask_for(cpu, (int)below(4, &cpu->seed));
+        allocate(cpu, (int)below(4, &cpu->seed));
 }
 
 static void *work(void *at) {
@@ -252,22 +252,22 @@ static void *work(void *at) {
     return NULL;
 }
 
-static void give_all_back(void) {
+static void release_all_blocks(void) {
     for (unsigned at = 0; at < cpus; at += all[at].held == 0)
         if (all[at].held > 0)
-            give_back(&all[at]);
+            release_block(&all[at]);
 }
 
-// What is done after all else, so that the fault `drops` shows in each run: all blocks are given back, and 40 more that CPU 0
-// gets for it. Then it asks for all pages at once.
+// The last calls, so that the fault `drops` always shows: all blocks are freed, and 40 more that CPU 0 allocates for this. Then it
+// allocates all pages at once.
 static void do_closing(void) {
-    give_all_back();
+    release_all_blocks();
     for (unsigned at = 0; at < LOST_EACH; at++) {
-        ask_for(&all[0], 0);
+        allocate(&all[0], 0);
         if (all[0].held > 0)
-            give_back(&all[0]);
+            release_block(&all[0]);
     }
-    ask_for(&all[0], HEIGHT);
+    allocate(&all[0], HEIGHT);
 }
 
 // ---- The start and the end
@@ -293,16 +293,15 @@ static void read_words(int count, char **given) {
         calls = number_of(given[3], 1, 1000000, "CALLS is 1 to 1,000,000");
 }
 
-// A note of these has at most 6 pieces. Beside its calls CPU 0 may note 16 times for each CPU at the end, and some 90 times
-// more.
+// A note here takes at most 6 pieces. After its calls CPU 0 may note 16 times for each CPU, and some 90 times more.
 static void open_all(void) {
     size_t pieces = 6 * ((size_t)calls + MOST_HELD * MOST_CPUS + 100) + MC2_CUSTOM_NOTE_PIECES;
     memset(zone.head, -1, sizeof zone.head);
     memset(zone.order, -1, sizeof zone.order);
     push(0, HEIGHT);
     zone.left = PAGES;
-    must(mc2_open_custom_turns(&turns[ZONE], UINT32_MAX - 1));
-    must(mc2_open_custom_turns(&turns[PIPE], UINT32_MAX - 1));
+    must(mc2_open_custom_sequence(&sequences[ZONE], UINT32_MAX - 1));
+    must(mc2_open_custom_sequence(&sequences[PIPE], UINT32_MAX - 1));
     for (unsigned at = 0; at < cpus; at++) {
         all[at] = (struct cpu){.number = at, .seed = 88172645463325252u + 7919u * at};
         union mc2_note_piece *memory = calloc(pieces, sizeof *memory);
@@ -313,8 +312,8 @@ static void open_all(void) {
 static int write_record(void) {
     static const uint64_t zone_numbers[] = {HEIGHT}, pipe_numbers[] = {BYTES, WHOLE};
     static const char *const refusing[] = {"none", "full", "empty"};
-    const struct mc2_noted_object objects[] = {{"zone", "ticket", "buddy", zone_numbers, 1, &turns[ZONE]},
-                                               {"p", "ticket", "pipe", pipe_numbers, 2, &turns[PIPE]}};
+    const struct mc2_noted_object objects[] = {{"zone", "ticket", "buddy", zone_numbers, 1, &sequences[ZONE]},
+                                               {"p", "ticket", "pipe", pipe_numbers, 2, &sequences[PIPE]}};
     const struct mc2_custom_noted noted = {objects, OBJECTS, notes, cpus, words, WORDS, refusing, 3};
     return mc2_write_custom_notes(&noted, mc2_write_to_file, stdout);
 }

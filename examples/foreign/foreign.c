@@ -1,24 +1,24 @@
-// A small kernel that isn't ours, with a queue, a page pool and a console behind locks of its own. Threads stand for its CPUs.
-// It notes what they do by include/mc2_record.h and prints the record; docs/RECORDS.md goes through it. Nothing here is proved.
+// A small kernel with a queue, a page pool and a console behind locks of its own. Threads act as its CPUs. It records what they do
+// by include/mc2_record.h, and prints the record; docs/RECORDS.md explains it. Nothing here is proved.
 //
 //     cc -std=c11 -O2 -pthread -o /tmp/foreign examples/foreign/foreign.c
 //     /tmp/foreign LOCK [FAULT [CPUS [SECTIONS [EVENTS]]]]
 //
-// LOCK is mutex, ticket or mcs. FAULT is right, which is none (the default), or what is planted:
-//     unlocked  nobody takes the lock
-//     early     the lock is let go before the work is done
-//     outside   events are noted when the lock was let go
-//     drops     each hundredth enq is answered, and its thread is lost
-//     twice     a deq is told twice
-//     swapped   a CPU notes two entries the wrong way round
-// CPUS are 1 to 64 (4), with a fault 2 to 64; SECTIONS each CPU's critical sections of 1 to 3 calls, 1 to 9,000 (1,000); EVENTS
-// the most of each log, 1 to 65,536 (65,536). The status is 0, 2 for wrong words, and 3 where something is refused.
+// LOCK is mutex, ticket or mcs. FAULT is right (no fault, the default), or a fault to plant:
+//     unlocked  no CPU acquires the lock
+//     early     the lock is released before the work is done
+//     outside   events are noted after the lock was released
+//     drops     each hundredth enq gets a reply, and its thread is lost
+//     twice     a deq is noted twice
+//     swapped   a CPU notes two entries in the wrong order
+// CPUS is 1 to 64 (4), with a fault 2 to 64; SECTIONS the critical sections of each CPU, of 1 to 3 calls, 1 to 9,000 (1,000); EVENTS
+// the most events of each log, 1 to 65,536 (65,536). The status is 0, 2 for wrong words, and 3 where something is refused.
 #define _POSIX_C_SOURCE 200809L
 #include "locks.h"
 #include "objects.h"
 
 enum fault { RIGHT, UNLOCKED, EARLY, OUTSIDE, DROPS, TWICE, SWAPPED, FAULTS };
-// Beside its sections a CPU has at most 3 entries, and one event is told twice.
+// A CPU has at most 3 entries more than sections, and one event is noted twice.
 enum { MOST_ASKED = 3, MORE_ENTRIES = 4 };
 
 static const char *const lock_words[] = {"mutex", "ticket", "mcs"};
@@ -28,10 +28,10 @@ static enum fault fault;
 static unsigned cpus = 4, sections = 1000, events = MC2_MOST_EVENTS;
 static struct lock locks[OBJECTS];
 static struct mc2_recorder recorder;
-// How far the opening has come.
+// The stage of the opening.
 static atomic_uint stage;
 
-// What a CPU wants, and what was done.
+// The calls of a CPU, and what was done.
 struct work {
     unsigned cpu, object, asked, done;
     uint64_t looks;
@@ -54,7 +54,7 @@ static void await(unsigned wanted) {
         sched_yield();
 }
 
-// Does the calls up to and with the first that is refused.
+// Does the calls, up to the first that is refused.
 static void do_calls(struct work *work) {
     do
         work->steps[work->done] = answer(work->object, work->calls[work->done]);
@@ -76,12 +76,12 @@ static void do_work(struct work *work) {
         must(room);
 }
 
-// The CPU's own entry. Nothing was done where the log had no room.
+// Notes the entry. If the log had no room, nothing was done.
 static void note(const struct work *work) {
     must(mc2_recorder_entry(&recorder, work->object, work->cpu, work->looks, work->calls, work->asked, work->steps, work->done));
 }
 
-// Lets CPU 1 do its part of the opening now, if it hasn't.
+// Lets CPU 1 do its part of the opening, if it hasn't done it yet.
 static void let_the_other_in(void) {
     unsigned none = 0;
     if (atomic_compare_exchange_strong(&stage, &none, 1))
@@ -92,7 +92,7 @@ static int note_event(const struct work *work) {
     return mc2_recorder_event(&recorder, work->object, work->cpu, work->steps, work->done);
 }
 
-// Whether this is the first deq that took a thread. It is asked under the queue's lock.
+// Returns whether this is the first deq that took a thread. Called under the queue's lock.
 static bool is_first_taken(const struct work *work) {
     static bool is_taken;
     bool is_first = !is_taken && work->steps[0].reply == MC2_THREAD;
@@ -136,7 +136,7 @@ static void do_one(unsigned cpu, unsigned object, struct mc2_call call) {
     do_and_note(&work);
 }
 
-// CPU 0 does two sections on two objects, CPU 1 both of its own between them, and CPU 0 notes the second first.
+// CPU 0 does two sections on two objects, with both sections of CPU 1 between them, and notes the second one first.
 static void do_two_swapped(void) {
     struct work first = {.object = QUEUE, .asked = 1, .calls = {mc2_call_of(MC2_ENQ, 3, 0)}};
     struct work second = {.object = POOL, .asked = 1, .calls = {mc2_call_of(MC2_ALLOC, 0, 0)}};
@@ -147,8 +147,8 @@ static void do_two_swapped(void) {
     note(&first);
 }
 
-// What is done before all else, in the same order in each run. So each fault that hangs on who comes when shows here: the CPU
-// that is at fault waits in the midst of it, until CPU 1 has done its part.
+// The first sections of CPUs 0 and 1, in the same order in each run. So a fault that depends on timing always shows: CPU 0 waits in
+// the middle of it, until CPU 1 has done its part.
 static void do_opening(unsigned cpu) {
     if (cpu == 0) {
         if (fault == SWAPPED)
@@ -169,7 +169,7 @@ static void do_opening(unsigned cpu) {
     await(3);
 }
 
-// A number below the bound, always the same ones for the same seed.
+// Returns a number below the bound. The same seed gives the same numbers.
 static unsigned below(unsigned bound, uint64_t *seed) {
     *seed ^= *seed << 13;
     *seed ^= *seed >> 7;
@@ -177,7 +177,7 @@ static unsigned below(unsigned bound, uint64_t *seed) {
     return (unsigned)((*seed >> 24) % bound);
 }
 
-// A call on the object, and now and then one of another kind, or with a number that is too great.
+// Returns a call on the object, and now and then one of another kind, or with a number that is out of range.
 static struct mc2_call any_call(unsigned object, uint64_t *seed) {
     static const unsigned words[OBJECTS][4] = {{MC2_ENQ, MC2_DEQ, MC2_REMOVE, MC2_LEN},
                                                {MC2_ALLOC, MC2_FREE, MC2_LEFT, MC2_ALLOC},
@@ -238,7 +238,7 @@ static enum lock_kind read_words(int count, char **words) {
         refuse("the words are LOCK [FAULT [CPUS [SECTIONS [EVENTS]]]]", 2);
     enum lock_kind kind = (enum lock_kind)word_of(words[1], lock_words, LOCK_KINDS, "LOCK is mutex, ticket or mcs");
     if (kind == MCS && !has_mcs)
-        refuse("mcs is left out, as ck_spinlock.h wasn't there", 3);
+        refuse("mcs is left out, as there was no ck_spinlock.h", 3);
     if (count > 2)
         fault = (enum fault)word_of(words[2], fault_words, FAULTS,
                                     "FAULT is right, unlocked, early, outside, drops, twice or swapped");
@@ -252,10 +252,10 @@ static enum lock_kind read_words(int count, char **words) {
 }
 
 static void open_objects(enum lock_kind kind) {
-    unsigned told = kind == MCS ? MC2_MCS : MC2_TICKET;
-    const struct mc2_object objects[OBJECTS] = {{"threads", MC2_QUEUE, told, events, THREADS, 0, NULL},
-                                                {"pages", MC2_POOL, told, events, PAGES, 0, NULL},
-                                                {"console", MC2_CONSOLE, told, events, BYTES, 0, NULL}};
+    unsigned lock = kind == MCS ? MC2_MCS : MC2_TICKET;
+    const struct mc2_object objects[OBJECTS] = {{"threads", MC2_QUEUE, lock, events, THREADS, 0, NULL},
+                                                {"pages", MC2_POOL, lock, events, PAGES, 0, NULL},
+                                                {"console", MC2_CONSOLE, lock, events, BYTES, 0, NULL}};
     for (unsigned at = 0; at < OBJECTS; at++)
         if (!lock_open(&locks[at], kind))
             refuse("no mutex", 3);
@@ -270,7 +270,7 @@ int main(int count, char **words) {
     start_cpus(threads);
     for (unsigned cpu = 0; cpu < cpus; cpu++)
         pthread_join(threads[cpu], NULL);
-    // What enqs have lost shows here at the latest.
+    // Threads that enqs have lost show here at the latest.
     do_one(0, QUEUE, mc2_call_of(MC2_LEN, 0, 0));
     must(mc2_recorder_write(&recorder, stdout));
     mc2_recorder_close(&recorder);

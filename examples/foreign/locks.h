@@ -1,5 +1,5 @@
-// Three locks behind one face: the system's mutex, a ticket lock in C11 atomics, and the MCS lock of Concurrency Kit (libck-dev
-// on Debian), which is left out where its header isn't there.
+// Three locks with one interface: the system's mutex, a ticket lock in C11 atomics, and the MCS lock of Concurrency Kit (libck-dev
+// on Debian), which is left out if its header isn't installed.
 #pragma once
 #include <pthread.h>
 #include <sched.h>
@@ -25,7 +25,7 @@ static void ck_spinlock_mcs_lock(ck_spinlock_mcs_t *lock, ck_spinlock_mcs_contex
 static void ck_spinlock_mcs_unlock(ck_spinlock_mcs_t *lock, ck_spinlock_mcs_context_t *node) { (void)lock, (void)node; }
 #endif
 
-// All zero bytes are a free lock of each kind, but for the mutex, which lock_open makes.
+// All zero bytes are a free lock of each kind, except a mutex, which lock_open initializes.
 struct lock {
     enum lock_kind kind;
     pthread_mutex_t mutex;
@@ -38,11 +38,11 @@ static bool lock_open(struct lock *lock, enum lock_kind kind) {
     return pthread_mutex_init(&lock->mutex, NULL) == 0;
 }
 
-// Draws a ticket, and looks until it is served. Who waits for long leaves the processor to others.
+// Draws a ticket, and looks until it is served. A long wait yields the processor.
 static uint64_t ticket_acquire(struct lock *lock) {
-    unsigned own = atomic_fetch_add_explicit(&lock->next, 1, memory_order_relaxed);
+    unsigned ticket = atomic_fetch_add_explicit(&lock->next, 1, memory_order_relaxed);
     uint64_t looks = 1;
-    for (; atomic_load_explicit(&lock->served, memory_order_acquire) != own; looks++)
+    for (; atomic_load_explicit(&lock->served, memory_order_acquire) != ticket; looks++)
         if (looks % 64 == 0)
             sched_yield();
     return looks;
@@ -53,7 +53,7 @@ static void ticket_release(struct lock *lock) {
     atomic_store_explicit(&lock->served, served + 1, memory_order_release);
 }
 
-// Gets the lock, and says how often it was looked at: 0 where that isn't known. The node is the caller's until it releases.
+// Acquires the lock. Returns the number of looks, or 0 if it isn't known. The node is in use until the release.
 static uint64_t acquire(struct lock *lock, ck_spinlock_mcs_context_t *node) {
     if (lock->kind == TICKET)
         return ticket_acquire(lock);

@@ -1,17 +1,17 @@
-// A small kernel that isn't ours, with a queue and a page pool behind ticket locks of its own. Threads stand for its CPUs. It notes
-// what they do by include/mc2_note.h and prints the record; docs/RECORDS.md is about it. Nothing here is proved.
+// A small kernel with a queue and a page pool behind ticket locks of its own. Threads act as its CPUs. It records what they do by
+// include/mc2_note.h, the smaller recorder of docs/RECORDS.md, and prints the record. Nothing here is proved.
 //
 //     cc -std=c11 -O2 -pthread -o /tmp/noted examples/foreign/noted.c
 //     /tmp/noted [FAULT [CPUS [SECTIONS [EVENTS [PIECES]]]]]
 //
-// FAULT is right, which is none (the default), or what is planted:
-//     unlocked  nobody takes the lock
-//     early     the lock is let go before the work is done
-//     unnoted   CPU 1 doesn't note what it did first
-//     swapped   CPU 0 notes two turns of one object the wrong way round
-// CPUS are 2 to 64 (4); SECTIONS each CPU's critical sections of 1 to 3 calls, 1 to 9,000 (1,000); EVENTS the most of each log, 1
-// to 65,536 (65,536); PIECES the memory of each CPU, of 16 bytes each, 9 to 40,000 (40,000). Where a log or a memory is full the
-// kernel goes on and notes no more. The status is 0, 2 for wrong words, and 3 where something is refused.
+// FAULT is right (no fault, the default), or a fault to plant:
+//     unlocked  no CPU acquires the lock
+//     early     the lock is released before the work is done
+//     unnoted   CPU 1 doesn't note its first event
+//     swapped   CPU 0 notes two sequence numbers of one object in the wrong order
+// CPUS is 2 to 64 (4); SECTIONS the critical sections of each CPU, of 1 to 3 calls, 1 to 9,000 (1,000); EVENTS the most events of
+// each log, 1 to 65,536 (65,536); PIECES the memory of each CPU, in pieces of 16 bytes, 9 to 40,000 (40,000). If a log or a memory
+// is full, the kernel continues without notes. The status is 0, 2 for wrong words, and 3 where something is refused.
 #define _POSIX_C_SOURCE 200809L
 #include "locks.h"
 #include "objects.h"
@@ -24,16 +24,16 @@ static const char *const fault_words[] = {"right", "unlocked", "early", "unnoted
 static enum fault fault;
 static unsigned cpus = 4, sections = 1000, events = MC2_MOST_EVENTS, pieces = MOST_PIECES;
 static struct lock locks[NOTED_OBJECTS];
-static struct mc2_sequence turns[NOTED_OBJECTS];
+static struct mc2_sequence sequences[NOTED_OBJECTS];
 static struct mc2_notes notes[MC2_MOST_CPUS];
 static union mc2_note_piece memory[MC2_MOST_CPUS][MOST_PIECES];
-// How far the opening has come.
+// The stage of the opening.
 static atomic_uint stage;
 
-// What a CPU wants, and what was done in which turn.
+// The calls of a CPU, what was done, and its sequence number.
 struct work {
     unsigned object, asked, done;
-    uint32_t turn;
+    uint32_t seq;
     uint64_t looks;
     struct mc2_step steps[MOST_ASKED];
 };
@@ -53,20 +53,20 @@ static void await(unsigned wanted) {
         sched_yield();
 }
 
-// Does the calls up to and with the first that is refused.
+// Does the calls, up to the first that is refused.
 static void do_calls(struct work *work) {
     do
         work->steps[work->done] = answer(work->object, work->steps[work->done].call);
     while (!mc2_refuses(work->steps[work->done++].reply) && work->done < work->asked);
 }
 
-// One critical section: the turn is taken under the lock, and nothing is noted there.
+// One critical section: the CPU takes its sequence number under the lock, and notes nothing there.
 static void do_work(unsigned cpu, struct work *work) {
     struct lock *lock = &locks[work->object];
     ck_spinlock_mcs_context_t node;
     if (fault != UNLOCKED)
         work->looks = acquire(lock, &node);
-    work->turn = mc2_next_seq(&turns[work->object], &notes[cpu]);
+    work->seq = mc2_next_seq(&sequences[work->object], &notes[cpu]);
     if (fault == EARLY)
         release(lock, &node);
     do_calls(work);
@@ -74,10 +74,10 @@ static void do_work(unsigned cpu, struct work *work) {
         release(lock, &node);
 }
 
-// The CPU's own note. Nothing is noted of what got no turn.
+// Notes the event. Work without a sequence number isn't noted.
 static void note(unsigned cpu, const struct work *work) {
-    int noted = mc2_note(&notes[cpu], work->object, work->turn, work->looks, work->steps, work->asked, work->done);
-    must(work->turn == MC2_NO_SEQ && noted == MC2_LOG_FULL ? MC2_DONE : noted);
+    int result = mc2_note(&notes[cpu], work->object, work->seq, work->looks, work->steps, work->asked, work->done);
+    must(work->seq == MC2_NO_SEQ && result == MC2_LOG_FULL ? MC2_DONE : result);
 }
 
 static struct work work_of(unsigned object, struct mc2_call call) {
@@ -91,7 +91,7 @@ static void do_one(unsigned cpu, unsigned object, struct mc2_call call) {
     note(cpu, &work);
 }
 
-// Lets CPU 1 do its part of the opening now, if it hasn't.
+// Lets CPU 1 do its part of the opening, if it hasn't done it yet.
 static void let_the_other_in(void) {
     unsigned none = 0;
     if (atomic_compare_exchange_strong(&stage, &none, 1))
@@ -106,8 +106,8 @@ static void do_two_swapped(void) {
     note(0, &first);
 }
 
-// What is done before all else, in the same order in each run, so that each fault shows in each run: a CPU that has let another
-// in waits in the midst of its work until that one has done its part.
+// The first sections of CPUs 0 and 1, in the same order in each run, so that each fault always shows: CPU 0 waits in the middle of
+// its work until CPU 1 has done its part.
 static void do_opening(unsigned cpu) {
     if (cpu == 0) {
         if (fault == SWAPPED)
@@ -127,7 +127,7 @@ static void do_opening(unsigned cpu) {
     await(3);
 }
 
-// A number below the bound, always the same ones for the same seed.
+// Returns a number below the bound. The same seed gives the same numbers.
 static unsigned below(unsigned bound, uint64_t *seed) {
     *seed ^= *seed << 13;
     *seed ^= *seed >> 7;
@@ -186,7 +186,7 @@ static void open_all(void) {
     for (unsigned at = 0; at < NOTED_OBJECTS; at++) {
         if (!lock_open(&locks[at], TICKET))
             refuse("no lock", 3);
-        must(mc2_open_sequence(&turns[at], events));
+        must(mc2_open_sequence(&sequences[at], events));
     }
     for (unsigned cpu = 0; cpu < cpus; cpu++)
         must(mc2_open_notes(&notes[cpu], memory[cpu], pieces));
@@ -195,7 +195,7 @@ static void open_all(void) {
 static int write_record(void) {
     const struct mc2_object objects[] = {{"threads", MC2_QUEUE, MC2_TICKET, events, THREADS, 0, NULL},
                                          {"pages", MC2_POOL, MC2_TICKET, events, PAGES, 0, NULL}};
-    struct mc2_sequence *const each[] = {&turns[QUEUE], &turns[POOL]};
+    struct mc2_sequence *const each[] = {&sequences[QUEUE], &sequences[POOL]};
     const struct mc2_noted noted = {objects, each, NOTED_OBJECTS, notes, cpus};
     return mc2_write_notes(&noted, mc2_write_to_file, stdout);
 }

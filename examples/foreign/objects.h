@@ -1,7 +1,7 @@
-// A queue of threads, a pool of pages and a console, each as a small kernel has them, and how they answer.
+// A queue of threads, a pool of pages and a console, as a small kernel has them.
 //
-// Each is guarded by a lock of foreign.c. Their words are atomic, without any order, so that a run without the lock is wrong
-// and nothing worse; behind a lock plain words do. Places are taken modulo the room, so none is ever outside.
+// A lock of foreign.c guards each. Their words are relaxed atomics, so that a run without the lock has wrong replies, but no undefined
+// behaviour; behind a lock plain words will do. Indices are taken modulo the size, so none is out of range.
 #pragma once
 #include "../../include/mc2_record.h"
 #include <stdatomic.h>
@@ -11,13 +11,13 @@ enum { THREADS = 16, PAGES = 16, BYTES = 32, OWNERS = 16 };
 
 struct queue {
     atomic_uint first, count, enqs, ring[THREADS];
-    // Faults: whether enqs get lost, and what is done between two halves of a deq.
+    // Faults: whether enqs lose threads, and a function to call between the two halves of a deq.
     bool drops;
     void (*in_the_middle)(void);
 };
 
 struct pool {
-    // For each page its owner and one more, or 0.
+    // For each page its owner + 1, or 0.
     atomic_uint taken[PAGES];
 };
 
@@ -33,7 +33,7 @@ static unsigned get(const atomic_uint *word) { return atomic_load_explicit(word,
 
 static void set(atomic_uint *word, unsigned value) { atomic_store_explicit(word, value, memory_order_relaxed); }
 
-// The place of a thread, counted from the first, or how many threads there are.
+// Returns the place of a thread, counted from the first, or the number of threads.
 static unsigned queue_place(unsigned thread) {
     unsigned place = 0, count = get(&queue.count), first = get(&queue.first);
     while (place < count && get(&queue.ring[(first + place) % THREADS]) != thread)
@@ -67,7 +67,7 @@ static struct mc2_step queue_deq(struct mc2_call call) {
     return mc2_step_of(call, MC2_THREAD, thread);
 }
 
-// Takes a thread out, and moves those behind it up by one.
+// Removes a thread, and moves the threads after it up by one.
 static struct mc2_step queue_remove(struct mc2_call call) {
     unsigned first = get(&queue.first), count = get(&queue.count), place = queue_place(call.first);
     if (call.first >= THREADS)
@@ -134,7 +134,7 @@ static bool is_call_on(unsigned object, unsigned word) {
                                                               : word >= MC2_PUT && word <= MC2_LEVEL;
 }
 
-// What the object answers. The caller has its lock.
+// Performs a call. The caller has the object's lock.
 static struct mc2_step answer(unsigned object, struct mc2_call call) {
     if (!is_call_on(object, call.word))
         return mc2_step_of(call, MC2_BADCALL, 0);

@@ -1,4 +1,4 @@
-// What the checks of headers for records share: a check that ends the program, and a text that is taken in pieces.
+// Used by the checks of headers for records: a check that ends the program, and a text that is written in pieces.
 #include <stdbool.h>
 #include <stdint.h>
 #include <stdio.h>
@@ -15,7 +15,7 @@ static void check(bool is_so, const char *what, const char *file, int line) {
     }
 }
 
-// A text of which `left` more pieces are taken.
+// A text that takes `left` more pieces.
 struct text {
     char bytes[20000];
     size_t length, left;
@@ -36,8 +36,8 @@ static bool take_piece(void *to, const char *bytes, size_t length) {
 // written a beginning of the text.
 static const char *text_by(int (*write)(const void *what, mc2_write_fn take, void *to), const void *what) {
     static struct text texts[2], part;
-    static unsigned turn;
-    struct text *text = &texts[turn++ % 2];
+    static unsigned calls;
+    struct text *text = &texts[calls++ % 2];
     text->length = 0;
     text->left = SIZE_MAX;
     GIVES(write(what, take_piece, text), MC2_DONE);

@@ -1,7 +1,7 @@
 // Checks include/mc2_custom_note.h, as C11 and as C++17: that each bad use returns a refusal, and that what was noted
 // before is written as before. Then it prints a record of three CPUs on two objects of the kind `any`.
 //
-//     custom_note right|twice|twins|unnoted|last|late|beyond|full_memory
+//     custom_note right|twice|twins|unnoted|last|late|full_memory
 //
 // Of all but right and full_memory the record must be unsound, though every reply is right. The status is 0, or 1 at the first
 // check that fails, which a line on standard error names.
@@ -9,13 +9,11 @@
 
 #define STEP struct mc2_term_step
 #define OPEN_NOTES mc2_open_custom_notes
-#define OPEN_TURNS mc2_open_custom_turns
-#define HAS_ROOM mc2_has_custom_room
-#define TAKE_TURN mc2_next_custom_seq
+#define OPEN_SEQUENCE mc2_open_custom_sequence
 #define NOTE mc2_note_custom
 #define NOTE_PIECES MC2_CUSTOM_NOTE_PIECES
 #define MOST_OBJECTS MC2_NOTED_OBJECTS
-#define MOST_TURNS (UINT32_MAX - 1)
+#define MOST_NUMBERS (UINT32_MAX - 1)
 #include "notes.h"
 
 enum { PUT, TAKE, OK, NO, NUMBERS, WORDS };
@@ -23,8 +21,8 @@ enum { PUT, TAKE, OK, NO, NUMBERS, WORDS };
 static const char *const words[] = {"put", "take", "ok", "no", "numbers"};
 static const char *const refusing[] = {"no", "none"};
 static const uint64_t numbers[] = {7, UINT64_MAX};
-static struct mc2_noted_object objects[] = {{"q", "ticket", "any", numbers, 2, &turns[0]},
-                                            {"r", "mcs", "any", NULL, 0, &turns[1]}};
+static struct mc2_noted_object objects[] = {{"q", "ticket", "any", numbers, 2, &sequences[0]},
+                                            {"r", "mcs", "any", NULL, 0, &sequences[1]}};
 static struct mc2_custom_noted noted = {objects, OBJECTS, notes, CPUS, words, WORDS, refusing, 2};
 
 static struct mc2_term_step step_of(uint32_t number) {
@@ -74,17 +72,28 @@ static void check_numbers(void) {
         for (uint32_t out = 0; out <= 6; out++) {
             struct mc2_term_step step = {with_numbers(in), with_numbers(out)};
             open_all(PIECES);
-            GIVES(mc2_note_custom(&notes[1], 0, mc2_next_custom_seq(&turns[0], &notes[1]), 5, &step, 1, 1), MC2_DONE);
+            GIVES(mc2_note_custom(&notes[1], 0, next_seq(1, 0), 5, &step, 1, 1), MC2_DONE);
             snprintf(wanted, sizeof wanted, "\nlog q 1\n1 %s = %s\nlog r 0\n", all[in], all[out]);
             CHECK(notes[1].used == 3 + in / 2 + out / 2 && strstr(text_now(), wanted) != NULL);
         }
 }
 
+// In memory that was opened for short notes, no longer one is noted: it would take the room that is kept for others.
+static void check_short_notes(void) {
+    struct mc2_term_step steps[] = {longest_step(), longest_step()};
+    GIVES(mc2_open_notes(&notes[0], memory[0], 2 * MC2_NOTE_PIECES), MC2_DONE);
+    GIVES(mc2_open_custom_sequence(&sequences[0], EVENTS), MC2_DONE);
+    CHECK(next_seq(0, 0) == 0 && next_seq(0, 0) == 1 && next_seq(0, 0) == MC2_NO_SEQ);
+    GIVES(mc2_note_custom(&notes[0], 0, 0, 0, steps, 2, 2), MC2_TRANSCRIPT_FULL);
+    GIVES(mc2_note_custom(&notes[0], 0, 0, 0, steps, 1, 1), MC2_DONE);
+    CHECK(notes[0].used == MC2_NOTE_PIECES && notes[0].waiting == 1);
+}
+
 #define REFUSES(field, value, result)                                     \
     do {                                                                  \
-        struct mc2_custom_noted spoilt = noted;                              \
+        struct mc2_custom_noted spoilt = noted;                           \
         spoilt.field = value;                                             \
-        GIVES(mc2_write_custom_notes(&spoilt, take_piece, NULL), result);    \
+        GIVES(mc2_write_custom_notes(&spoilt, take_piece, NULL), result); \
     } while (0)
 
 static void check_writing(void) {
@@ -110,7 +119,7 @@ static void check_writing(void) {
     REFUSES(objects, wrong, MC2_BAD_OBJECT);
     wrong[1] = objects[1], wrong[1].count = 1;
     REFUSES(objects, wrong, MC2_BAD_OBJECT);
-    wrong[1] = objects[1], wrong[1].turns = NULL;
+    wrong[1] = objects[1], wrong[1].sequence = NULL;
     REFUSES(objects, wrong, MC2_BAD_OBJECT);
     // A note of an object that isn't described, and one with a word that isn't in the table.
     work(0, 1);
@@ -119,7 +128,7 @@ static void check_writing(void) {
     // Notes of one form aren't written in the other.
     const struct mc2_object plain[] = {{"q", MC2_QUEUE, MC2_TICKET, 9, 4, 0, NULL},
                                        {"r", MC2_QUEUE, MC2_TICKET, 9, 4, 0, NULL}};
-    struct mc2_sequence *const each[] = {&turns[0], &turns[1]};
+    struct mc2_sequence *const each[] = {&sequences[0], &sequences[1]};
     const struct mc2_noted others = {plain, each, OBJECTS, notes, CPUS};
     GIVES(mc2_write_notes(&others, take_piece, NULL), MC2_BAD_OBJECT);
 }
@@ -129,7 +138,9 @@ int main(int count, char **given) {
     check_opening();
     check_notes();
     check_room();
+    check_numbers_of_no_sequence();
     check_numbers();
+    check_short_notes();
     check_writing();
     print_case(given[1]);
     return 0;

@@ -1,6 +1,6 @@
-// Checks include/mc2_record.h, as C11 and as C++17: that each bad use is refused by what is returned, and changes nothing, and
-// that limits are those of docs/FORMATS.md; and that a recorder in memory of the caller's prints the same. Then it prints a
-// record in which each call and each reply stands.
+// Checks include/mc2_record.h, as C11 and as C++17: that each bad use returns an error and changes nothing, that the limits are
+// those of docs/FORMATS.md, and that a recorder in memory of the caller's prints the same. Then it prints a record that has each
+// call and each reply.
 //
 // The status is 0, or 1 at the first check that fails, which a line on standard error names.
 #include <stdbool.h>
@@ -14,13 +14,15 @@ static void *malloc_or_not(size_t size) { return is_memory_refused ? NULL : mall
 #include "mc2_record.h"
 #undef malloc
 #include "check.h"
+#include "every_word.h"
+#include "pages.h"
 
 static struct mc2_object object_of(const char *name, uint32_t kind, uint32_t events, uint32_t size, uint32_t channels) {
     struct mc2_object object = {name, kind, MC2_MCS, events, size, channels, NULL};
     return object;
 }
 
-// What mc2_recorder_open answers for the object alone.
+// Returns what mc2_recorder_open returns for one object.
 static int opened(const char *name, uint32_t kind, uint32_t events, uint32_t size, uint32_t channels) {
     struct mc2_recorder recorder;
     struct mc2_object object = object_of(name, kind, events, size, channels);
@@ -77,7 +79,7 @@ static void check_counts(void) {
     mc2_recorder_close(NULL);
 }
 
-// A recorder that was never opened, or not with success, or that is closed, refuses all.
+// A recorder that was never opened, or not with success, or that is closed, refuses every call.
 static void check_unopened(struct mc2_recorder *recorder) {
     struct mc2_call call = mc2_call_of(MC2_LEN, 0, 0);
     struct mc2_step step = mc2_step_of(call, MC2_COUNT, 0);
@@ -118,7 +120,7 @@ static const char *text_of(const struct mc2_recorder *recorder) {
     return text;
 }
 
-// Opens a recorder in memory that isn't zero, of which a byte too little is refused, and which nothing is written behind.
+// Opens a recorder in memory that isn't zero. One byte too few is refused, and nothing is written after its end.
 static void check_own_memory(void) {
     static uint64_t memory[(272 + 164) / 8 + 2];
     struct mc2_object object = object_of("q", MC2_QUEUE, 1, 1, 0);
@@ -132,7 +134,8 @@ static void check_own_memory(void) {
     GIVES(mc2_recorder_open_in(&recorder, NULL, 1, 1, 1, memory, size), MC2_BAD_POINTER);
     GIVES(mc2_recorder_open_in(NULL, &object, 1, 1, 1, memory, size), MC2_BAD_POINTER);
     GIVES(mc2_recorder_open_in(&recorder, &object, 1, 0, 1, memory, size), MC2_BAD_COUNT);
-    CHECK(mc2_recorder_size(&object, 1, 0, 1) == 0 && mc2_recorder_size(&object, 1, 1, 10001) == 0 && mc2_recorder_size(NULL, 1, 1, 1) == 0);
+    CHECK(mc2_recorder_size(&object, 1, 0, 1) == 0 && mc2_recorder_size(&object, 1, 1, 10001) == 0);
+    CHECK(mc2_recorder_size(NULL, 1, 1, 1) == 0);
     GIVES(mc2_recorder_write_to(&recorder, NULL, NULL), MC2_BAD_POINTER);
     GIVES(mc2_recorder_open_in(&recorder, &object, 1, 1, 1, memory, size), MC2_DONE);
     CHECK(strcmp(text_of(&recorder), "record 2\ncpus 1\nobjects 1\nobject q mcs 1 queue 1\nlog q 0\ncpu 0 0\nend\n") == 0);
@@ -172,7 +175,7 @@ static void check_quotas(void) {
     mc2_recorder_close(&recorder);
 }
 
-// A kernel that goes on notes nothing more of an object once it was told that there is no room.
+// A kernel that continues when there is no room notes nothing more of that object.
 static void check_going_on(void) {
     static struct mc2_recorder recorder;
     struct mc2_object objects[2] = {object_of("q", MC2_QUEUE, 1, 1, 0), object_of("r", MC2_QUEUE, 9, 1, 0)};
@@ -195,19 +198,6 @@ static void check_going_on(void) {
                                      "log q 1\n0 len = count 0\nlog r 1\n0 len = count 0\ncpu 0 2\nq 0 len | len = count 0\n"
                                      "r 0 len | len = count 0\ncpu 1 0\nend\n") == 0);
     mc2_recorder_close(&recorder);
-}
-
-// Real pages have the least free names, as long as they are given out.
-static void check_page_names(void) {
-    static struct mc2_page_names names = {3, {0}, {0}};
-    CHECK(mc2_priv_page_name(&names, 0) == 3 && mc2_page_returned(&names, 77, false) == 0);
-    CHECK(mc2_page_given(&names, UINT64_MAX) == 0 && mc2_page_given(&names, 0) == 1 && mc2_page_given(&names, 5) == 2);
-    CHECK(mc2_priv_page_name(&names, 0) == 1 && mc2_page_given(&names, 6) == 3 && mc2_page_given(&names, 5) == 2);
-    CHECK(mc2_page_returned(&names, 6, false) == 3);
-    CHECK(mc2_page_returned(&names, 0, false) == 1 && mc2_priv_page_name(&names, 0) == 1);
-    CHECK(mc2_page_returned(&names, 0, true) == 1 && mc2_priv_page_name(&names, 0) == 3);
-    CHECK(mc2_page_returned(&names, 0, false) == 1 && mc2_page_given(&names, 6) == 1);
-    CHECK(mc2_page_returned(&names, UINT64_MAX, true) == 0 && mc2_page_given(&names, 9) == 0);
 }
 
 static void check_events(struct mc2_recorder *recorder) {
@@ -261,7 +251,7 @@ static const char full_text[] = "record 2\ncpus 2\nobjects 2\n"
                                 "abcdefghijklmno9 0 len | len = count 0\ncpu 1 2\n"
                                 "s 7 len | len = count 0\ns 8 len | len = count 0\nend\n";
 
-// Fills a log and a transcript of a small recorder, and tries to go on.
+// Fills a log and a transcript of a small recorder, and tries to continue.
 static void check_full(struct mc2_recorder *recorder) {
     struct mc2_call call = mc2_call_of(MC2_LEN, 0, 0);
     struct mc2_step step = mc2_step_of(call, MC2_COUNT, 0);
@@ -270,7 +260,7 @@ static void check_full(struct mc2_recorder *recorder) {
     GIVES(mc2_recorder_room(recorder, 0, 0), MC2_LOG_FULL);
     GIVES(mc2_recorder_event(recorder, 0, 0, &step, 1), MC2_LOG_FULL);
     GIVES(mc2_recorder_entry(recorder, 0, 0, UINT64_MAX, &call, 1, NULL, 0), MC2_DONE);
-    // One event waits for its entry, for which alone there is room.
+    // There is room for one entry, and that is kept for an event.
     GIVES(mc2_recorder_room(recorder, 1, 0), MC2_TRANSCRIPT_FULL);
     GIVES(mc2_recorder_event(recorder, 1, 0, &step, 1), MC2_TRANSCRIPT_FULL);
     GIVES(mc2_recorder_entry(recorder, 0, 0, 1, &call, 1, NULL, 0), MC2_TRANSCRIPT_FULL);
@@ -285,7 +275,7 @@ static void check_full(struct mc2_recorder *recorder) {
     CHECK(strcmp(text_of(recorder), full_text) == 0);
 }
 
-// Writes where nothing can be written, and what two CPUs at one time may leave.
+// Writes where nothing can be written, and events that two CPUs may have written at the same time.
 static void check_writing(struct mc2_recorder *recorder) {
     FILE *full = fopen("/dev/full", "w"), *nowhere = fopen("/dev/null", "w");
     CHECK(full != NULL && nowhere != NULL);
@@ -306,13 +296,13 @@ static void check_writing(struct mc2_recorder *recorder) {
     CHECK(strstr(mc2_result_text(MC2_BAD_COUNT), "1 to 16 objects, 1 to 64 CPUs, 1 to 10,000 entries") != NULL);
 }
 
-// A record of one queue with room for so many events, and of two CPUs.
+// A record of one queue, with room for this number of events, and of two CPUs.
 static void open_small(struct mc2_recorder *recorder, uint32_t events) {
     struct mc2_object object = object_of("q", MC2_QUEUE, events, 1, 0);
     GIVES(mc2_recorder_open(recorder, &object, 1, 2, 4), MC2_DONE);
 }
 
-// Two CPUs are both told of the last room, as a lock lets them in at one time, and both work.
+// Two CPUs are both promised the last room, as a lock lets them in at the same time, and both work.
 static void check_mixed(void) {
     static struct mc2_recorder recorder;
     struct mc2_call call = mc2_call_of(MC2_LEN, 0, 0);
@@ -335,7 +325,7 @@ static void check_mixed(void) {
     mc2_recorder_close(&recorder);
 }
 
-// A log that is full is no fault of a lock, where the CPU wasn't told of room, or has noted since, or was told again.
+// A log that is full is no fault of a lock if the CPU wasn't promised room, has noted an event since, or was refused room later.
 static void check_unmixed(void) {
     static struct mc2_recorder recorder;
     struct mc2_call call = mc2_call_of(MC2_LEN, 0, 0);
@@ -354,7 +344,7 @@ static void check_unmixed(void) {
     GIVES(mc2_recorder_write_to(&recorder, take_piece, &pieces), MC2_DONE);
     mc2_recorder_close(&recorder);
     open_small(&recorder, 1);
-    // It was told of room, and didn't work; and later, that there is none.
+    // It was promised room, did no work, and was refused room later.
     GIVES(mc2_recorder_room(&recorder, 0, 1), MC2_DONE);
     GIVES(mc2_recorder_event(&recorder, 0, 0, &step, 1), MC2_DONE);
     GIVES(mc2_recorder_room(&recorder, 0, 1), MC2_LOG_FULL);
@@ -368,7 +358,7 @@ static void check_notes(void) {
     char name[] = "abcdefghijklmno9";
     struct mc2_object objects[2] = {object_of(name, MC2_QUEUE, 1, 1024, 0), object_of("s", MC2_SCHED, 2, 3, 4)};
     GIVES(mc2_recorder_open(&recorder, objects, 2, 2, 2), MC2_DONE);
-    // The recorder has names of its own.
+    // The recorder has copied the names.
     name[0] = 'X';
     const char *before = text_of(&recorder);
     check_events(&recorder);
@@ -379,73 +369,6 @@ static void check_notes(void) {
     mc2_recorder_close(&recorder);
 }
 
-// The steps of the record that is printed: the object, a call with its numbers, and its reply with its number.
-enum { Q, P, C, S };
-static const struct {
-    uint32_t object, word, first, second, reply, number;
-} told[] = {
-    {Q, MC2_ENQ, 0, 0, MC2_OK, 0},           {Q, MC2_ENQ, 0, 0, MC2_ALREADY, 0},        {Q, MC2_ENQ, 2, 0, MC2_BADTHREAD, 0},
-    {Q, MC2_REMOVE, 1, 0, MC2_ABSENT, 0},    {Q, MC2_REMOVE, 0, 0, MC2_OK, 0},          {Q, MC2_DEQ, 0, 0, MC2_EMPTY, 0},
-    {Q, MC2_ENQ, 1, 0, MC2_OK, 0},           {Q, MC2_LEN, 0, 0, MC2_COUNT, 1},          {Q, MC2_DEQ, 0, 0, MC2_THREAD, 1},
-    {Q, MC2_ALLOC, UINT32_MAX, 0, MC2_BADCALL, 0},
-    {P, MC2_ALLOC, 16, 0, MC2_BADOWNER, 0},  {P, MC2_FREE, 0, 2, MC2_BADPAGE, 0},       {P, MC2_FREE, 0, 0, MC2_NOTTAKEN, 0},
-    {P, MC2_ALLOC, 15, 0, MC2_PAGE, 0},      {P, MC2_FREE, 0, 0, MC2_NOTYOURS, 0},      {P, MC2_ALLOC, 15, 0, MC2_OVERQUOTA, 0},
-    {P, MC2_ALLOC, 0, 0, MC2_PAGE, 1},       {P, MC2_ALLOC, 0, 0, MC2_NONE, 0},         {P, MC2_LEFT, 0, 0, MC2_COUNT, 0},
-    {P, MC2_FREE, 15, 0, MC2_OK, 0},
-    {C, MC2_GET, 0, 0, MC2_EMPTY, 0},        {C, MC2_PUT, 255, 0, MC2_OK, 0},           {C, MC2_PUT, 0, 0, MC2_DROPPED, 255},
-    {C, MC2_LEVEL, 0, 0, MC2_COUNT, 1},      {C, MC2_GET, 0, 0, MC2_BYTE, 0},
-    {S, MC2_NEXT, 0, 0, MC2_EMPTY, 0},       {S, MC2_READY, 0, 0, MC2_OK, 0},           {S, MC2_NEXT, 0, 0, MC2_THREAD, 0},
-    {S, MC2_SLEEP, 1, 0, MC2_BADCHANNEL, 0}, {S, MC2_SLEEP, 0, 1, MC2_OK, 0},           {S, MC2_SLEEP, 0, 0, MC2_OK, 0},
-    {S, MC2_WAKE, 0, 0, MC2_THREAD, 1},      {S, MC2_WAKEALL, 0, 0, MC2_COUNT, 1},      {S, MC2_WAKE, 0, 0, MC2_EMPTY, 0},
-    {S, MC2_NEXT, 0, 0, MC2_THREAD, 1}};
-enum { TOLD = sizeof told / sizeof told[0], OF_THE_POOL = 10 };
-
-// Who is alone looks once at a ticket lock, and never at an MCS lock.
-static void note(struct mc2_recorder *recorder, uint32_t object, const struct mc2_call *calls, uint32_t asked,
-                 const struct mc2_step *steps, uint32_t done) {
-    uint64_t looks = object == Q || object == C ? 1 : 0;
-    if (done > 0)
-        GIVES(mc2_recorder_event(recorder, object, 0, steps, done), MC2_DONE);
-    GIVES(mc2_recorder_entry(recorder, object, 0, looks, calls, asked, steps, done), MC2_DONE);
-}
-
-static void note_groups(struct mc2_recorder *recorder) {
-    struct mc2_call calls[8], left = mc2_call_of(MC2_LEFT, 0, 0);
-    struct mc2_step steps[8];
-    for (unsigned at = 0; at < 8; at++) {
-        calls[at] = mc2_call_of(MC2_LEN, 0, 0);
-        steps[at] = mc2_step_of(calls[at], MC2_COUNT, 0);
-    }
-    note(recorder, Q, calls, 8, steps, 8);
-    calls[0] = calls[1] = mc2_call_of(MC2_ENQ, 1, 0);
-    steps[0] = mc2_step_of(calls[0], MC2_OK, 0);
-    steps[1] = mc2_step_of(calls[1], MC2_ALREADY, 0);
-    note(recorder, Q, calls, 3, steps, 2);
-    GIVES(mc2_recorder_room(recorder, P, 0), MC2_LOG_FULL);
-    note(recorder, P, &left, 1, NULL, 0);
-}
-
-static void print_record(void) {
-    struct mc2_recorder recorder;
-    uint32_t quotas[MC2_OWNERS] = {1, 0, 4096, 2, 2, 2, 2, 2, 2, 2, 2, 2, 2, 2, 2, 1};
-    const struct mc2_object objects[4] = {{"threads", MC2_QUEUE, MC2_TICKET, 100, 2, 0, NULL},
-                                          {"pages", MC2_POOL, MC2_MCS, OF_THE_POOL, 2, 0, quotas},
-                                          {"c", MC2_CONSOLE, MC2_TICKET, 65536, 1, 0, NULL},
-                                          {"s9", MC2_SCHED, MC2_MCS, 10, 2, 1, NULL}};
-    GIVES(mc2_recorder_open(&recorder, objects, 4, 2, TOLD + 3), MC2_DONE);
-    // The recorder has quotas of its own.
-    quotas[15] = 9;
-    for (unsigned at = 0; at < TOLD; at++) {
-        struct mc2_call call = mc2_call_of(told[at].word, told[at].first, told[at].second);
-        struct mc2_step step = mc2_step_of(call, told[at].reply, told[at].number);
-        CHECK(mc2_refuses(step.reply) == (step.reply >= MC2_BADTHREAD));
-        note(&recorder, told[at].object, &call, 1, &step, 1);
-    }
-    note_groups(&recorder);
-    GIVES(mc2_recorder_write(&recorder, stdout), MC2_DONE);
-    mc2_recorder_close(&recorder);
-}
-
 int main(void) {
     check_names();
     check_sizes();
@@ -453,6 +376,7 @@ int main(void) {
     check_memory();
     check_going_on();
     check_page_names();
+    check_many_pages();
     check_own_memory();
     check_quotas();
     check_notes();

@@ -1,7 +1,7 @@
 #!/usr/bin/env python3
 """use: limits.py
 
-Compares the limits of include/mc2_record.h with those of crates/, by which the judge is proved. The header has just these.
+Compares the limits of include/mc2_objects.h with those of crates/, by which the judge is proved. The header has exactly these.
 """
 import re
 import sys
@@ -24,7 +24,7 @@ LIMITS = [
     ("MC2_OWNERS", "page_pool/src/params.rt", r"pub const OWNERS: usize = (\d+);"),
 ]
 
-header = (TOP / "include/mc2_record.h").read_text()
+header = (TOP / "include/mc2_objects.h").read_text()
 have = {(name, int(number)) for name, number in re.findall(r"\b(MC2_MOST_\w+|MC2_OWNERS) = (\d+)\b", header)}
 wanted = set()
 for name, path, line in LIMITS:

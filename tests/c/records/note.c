@@ -1,7 +1,7 @@
 // Checks include/mc2_note.h, as C11 and as C++17: that each bad use returns a refusal, and that what was noted before
 // is written as before. Then it prints a record.
 //
-//     note right|twice|twins|unnoted|last|late|beyond|full_memory
+//     note right|twice|twins|unnoted|last|late|full_memory
 //     note random SEED
 //
 // Of all but right and full_memory the record must be unsound, though each reply in it is right. With `random` there are some notes
@@ -11,13 +11,11 @@
 
 #define STEP struct mc2_step
 #define OPEN_NOTES mc2_open_notes
-#define OPEN_TURNS mc2_open_sequence
-#define HAS_ROOM mc2_has_note_room
-#define TAKE_TURN mc2_next_seq
+#define OPEN_SEQUENCE mc2_open_sequence
 #define NOTE mc2_note
 #define NOTE_PIECES MC2_NOTE_PIECES
 #define MOST_OBJECTS MC2_MOST_OBJECTS
-#define MOST_TURNS MC2_MOST_EVENTS
+#define MOST_NUMBERS MC2_MOST_EVENTS
 #include "notes.h"
 
 static struct mc2_step step_of(uint32_t number) {
@@ -29,7 +27,7 @@ static struct mc2_step longest_step(void) { return step_of(0); }
 static int write_all(const void *unused, mc2_write_fn take, void *to) {
     static const struct mc2_object objects[] = {{"q", MC2_QUEUE, MC2_TICKET, EVENTS, 4, 0, NULL},
                                                 {"r", MC2_QUEUE, MC2_MCS, EVENTS, 4, 0, NULL}};
-    static struct mc2_sequence *const each[] = {&turns[0], &turns[1]};
+    static struct mc2_sequence *const each[] = {&sequences[0], &sequences[1]};
     struct mc2_noted noted = {objects, each, OBJECTS, notes, CPUS};
     (void)unused;
     return mc2_write_notes(&noted, take, to);
@@ -58,7 +56,7 @@ static void check_notes(void) {
 
 static void check_writing(void) {
     struct mc2_object objects[] = {{"q", MC2_QUEUE, MC2_TICKET, 9, 4, 0, NULL}, {"q", MC2_QUEUE, MC2_TICKET, 9, 4, 0, NULL}};
-    struct mc2_sequence *each[] = {&turns[0], NULL};
+    struct mc2_sequence *each[] = {&sequences[0], NULL};
     struct mc2_noted noted = {objects, each, 1, notes, CPUS}, wrong = noted;
     open_all(PIECES);
     FILE *nowhere = fopen("/dev/null", "w");
@@ -70,7 +68,7 @@ static void check_writing(void) {
     GIVES(mc2_write_notes(&wrong, mc2_write_to_file, nowhere), MC2_BAD_POINTER);
     wrong = noted, wrong.object_count = 2;
     GIVES(mc2_write_notes(&wrong, mc2_write_to_file, nowhere), MC2_BAD_POINTER);
-    each[1] = &turns[1];
+    each[1] = &sequences[1];
     GIVES(mc2_write_notes(&wrong, mc2_write_to_file, nowhere), MC2_BAD_OBJECT);
     wrong.object_count = MC2_MOST_OBJECTS + 1;
     GIVES(mc2_write_notes(&wrong, mc2_write_to_file, nowhere), MC2_BAD_COUNT);
@@ -78,7 +76,10 @@ static void check_writing(void) {
     GIVES(mc2_write_notes(&wrong, mc2_write_to_file, nowhere), MC2_BAD_COUNT);
     wrong.cpus = 0;
     GIVES(mc2_write_notes(&wrong, mc2_write_to_file, nowhere), MC2_BAD_COUNT);
-    // A note of an object that isn't described.
+    // A sequence that is longer than a log may be. A note of an object that isn't described.
+    sequences[0].events = MC2_MOST_EVENTS + 1;
+    GIVES(mc2_write_notes(&noted, mc2_write_to_file, nowhere), MC2_BAD_COUNT);
+    sequences[0].events = EVENTS;
     work(0, 1);
     GIVES(mc2_write_notes(&noted, mc2_write_to_file, nowhere), MC2_BAD_OBJECT);
     fclose(nowhere);
@@ -87,11 +88,11 @@ static void check_writing(void) {
 static void check_most_notes(void) {
     static union mc2_note_piece many[MC2_MOST_ENTRIES * 3];
     open_all(PIECES);
-    GIVES(mc2_open_sequence(&turns[0], MC2_MOST_EVENTS), MC2_DONE);
+    GIVES(mc2_open_sequence(&sequences[0], MC2_MOST_EVENTS), MC2_DONE);
     GIVES(mc2_open_notes(&notes[0], many, sizeof many / sizeof many[0]), MC2_DONE);
     for (unsigned at = 0; at < MC2_MOST_ENTRIES; at++)
         work(0, 0);
-    GIVES(mc2_next_seq(&turns[0], &notes[0]), MC2_NO_SEQ);
+    GIVES(next_seq(0, 0), MC2_NO_SEQ);
     GIVES(note_one(0, 0, MC2_MOST_ENTRIES), MC2_TRANSCRIPT_FULL);
     CHECK(notes[0].used == 2 * MC2_MOST_ENTRIES && notes[0].count == MC2_MOST_ENTRIES);
 }
@@ -104,22 +105,22 @@ static unsigned below(unsigned bound, uint64_t *seed) {
 }
 
 struct chosen {
-    uint32_t cpu, object, turn;
+    uint32_t cpu, object, seq;
 };
 
-// Whether each turn of the object was noted once, and by each CPU in order.
+// Whether each number of the object was noted once, and by each CPU in order.
 static bool is_right(const struct chosen *chosen, unsigned count, uint32_t object) {
-    unsigned of_turn[EVENTS] = {0}, last[CPUS] = {0}, most = turns[object].next;
+    unsigned of_number[EVENTS] = {0}, last[CPUS] = {0}, most = sequences[object].next;
     bool is_so = true;
     for (unsigned at = 0; at < count; at++)
         if (chosen[at].object == object) {
-            is_so = is_so && chosen[at].turn >= last[chosen[at].cpu];
-            last[chosen[at].cpu] = chosen[at].turn;
-            of_turn[chosen[at].turn]++;
-            most = most > chosen[at].turn ? most : chosen[at].turn + 1;
+            is_so = is_so && chosen[at].seq >= last[chosen[at].cpu];
+            last[chosen[at].cpu] = chosen[at].seq;
+            of_number[chosen[at].seq]++;
+            most = most > chosen[at].seq ? most : chosen[at].seq + 1;
         }
-    for (unsigned turn = 0; turn < most; turn++)
-        is_so = is_so && of_turn[turn] == 1;
+    for (unsigned seq = 0; seq < most; seq++)
+        is_so = is_so && of_number[seq] == 1;
     return is_so;
 }
 
@@ -130,7 +131,7 @@ static int print_random(uint64_t seed) {
     open_all(PIECES);
     for (unsigned at = 0; at < count; at++) {
         struct chosen it = {below(CPUS, &seed), below(OBJECTS, &seed), 0};
-        it.turn = mc2_next_seq(&turns[it.object], &notes[it.cpu]);
+        it.seq = next_seq(it.cpu, it.object);
         if (harm == 0 || below(8, &seed) > 0)
             chosen[kept++] = it;
         if (harm > 0 && below(8, &seed) == 0) {
@@ -145,7 +146,7 @@ static int print_random(uint64_t seed) {
         chosen[place + 1] = it;
     }
     for (unsigned at = 0; at < kept; at++)
-        GIVES(note_one(chosen[at].cpu, chosen[at].object, chosen[at].turn), MC2_DONE);
+        GIVES(note_one(chosen[at].cpu, chosen[at].object, chosen[at].seq), MC2_DONE);
     GIVES(write_all(NULL, mc2_write_to_file, stdout), MC2_DONE);
     return is_right(chosen, kept, 0) && is_right(chosen, kept, 1) ? 0 : 4;
 }
@@ -156,6 +157,7 @@ int main(int count, char **words) {
     check_notes();
     check_writing();
     check_room();
+    check_numbers_of_no_sequence();
     check_most_notes();
     if (count == 3)
         return print_random(88172645463325252u + strtoul(words[2], NULL, 10) * 1000003u);

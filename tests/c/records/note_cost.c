@@ -1,9 +1,8 @@
-// What a note costs by include/mc2_note.h, and an event with its entry by include/mc2_record.h, on one thread, one call each.
+// Measures what a note costs by include/mc2_note.h, and an event with its entry by include/mc2_record.h, on one thread, one call each.
 //
 //     gcc -std=c11 -O2 -Iinclude -o /tmp/note_cost tests/c/records/note_cost.c && /tmp/note_cost
 //
-// The two are noted in turn, 10,000 times each, in memory that was touched before, ROUNDS times. Of each the median of its rounds
-// is printed, and the least.
+// A round notes 10,000 times by each, in memory that was touched before. It prints the median and the least of ROUNDS rounds.
 #define _POSIX_C_SOURCE 200809L
 #include <stdlib.h>
 #include <time.h>
@@ -16,7 +15,7 @@ static const struct mc2_object object = {"q", MC2_QUEUE, MC2_TICKET, CALLS, 1024
 static union mc2_note_piece memory[PIECES];
 static struct mc2_recorder recorder;
 static struct mc2_notes notes;
-static struct mc2_sequence turns;
+static struct mc2_sequence sequence;
 
 static struct mc2_step step_of(volatile uint32_t *thread) {
     *thread = (*thread + 7) % 1024;
@@ -26,9 +25,9 @@ static struct mc2_step step_of(volatile uint32_t *thread) {
 static int note_all(volatile uint32_t *thread) {
     int failed = 0;
     for (uint32_t call = 0; call < CALLS; call++) {
-        uint32_t turn = mc2_next_seq(&turns, &notes);
+        uint32_t seq = mc2_next_seq(&sequence, &notes);
         struct mc2_step step = step_of(thread);
-        failed |= mc2_note(&notes, 0, turn, call, &step, 1, 1);
+        failed |= mc2_note(&notes, 0, seq, call, &step, 1, 1);
     }
     return failed;
 }
@@ -70,7 +69,7 @@ static int is_less(const void *one, const void *other) {
     return (first > second) - (first < second);
 }
 
-static void tell(const char *what, size_t bytes, double *rounds) {
+static void print(const char *what, size_t bytes, double *rounds) {
     qsort(rounds, ROUNDS, sizeof *rounds, is_less);
     printf("%s: %zu bytes, %.1f ns, least %.1f ns\n", what, bytes, rounds[ROUNDS / 2], rounds[0]);
 }
@@ -78,7 +77,7 @@ static void tell(const char *what, size_t bytes, double *rounds) {
 int main(void) {
     static double noted[ROUNDS], recorded[ROUNDS], made[ROUNDS];
     for (unsigned round = 0; round < ROUNDS; round++) {
-        if (mc2_recorder_open(&recorder, &object, 1, 1, CALLS) != MC2_DONE || mc2_open_sequence(&turns, CALLS) != MC2_DONE ||
+        if (mc2_recorder_open(&recorder, &object, 1, 1, CALLS) != MC2_DONE || mc2_open_sequence(&sequence, CALLS) != MC2_DONE ||
             mc2_open_notes(&notes, memory, PIECES) != MC2_DONE)
             return 1;
         noted[round] = nanoseconds_of(note_all);
@@ -86,8 +85,8 @@ int main(void) {
         made[round] = nanoseconds_of(make_all);
         mc2_recorder_close(&recorder);
     }
-    tell("mc2_note.h", notes.used / CALLS * sizeof *memory, noted);
-    tell("mc2_record.h", sizeof(struct mc2_priv_event) + sizeof(struct mc2_priv_entry), recorded);
-    tell("the call alone", 0, made);
+    print("mc2_note.h", notes.used / CALLS * sizeof *memory, noted);
+    print("mc2_record.h", sizeof(struct mc2_priv_event) + sizeof(struct mc2_priv_entry), recorded);
+    print("the call alone", 0, made);
     return 0;
 }
