@@ -1,7 +1,7 @@
 // mc2_by_name.h - each call of the four kinds of objects as a function of its own. mc2_cells.h includes this.
 //
 // Each is as mc2_cell_call with that call: it acquires the lock, performs the call as one event of the log, and releases the lock.
-//   reply    out, on MC2_DONE: one of the replies named below; of those that refuse the call, the first that applies. At an object
+//   reply    out, on MC2_DONE: one of the replies named below; of those that refuse the call, the first that applies. On an object
 //            of another kind it is MC2_BADCALL.
 // Returns  MC2_DONE; MC2_LOG_FULL: nothing was done; MC2_REFUSED: the caller holds the lock.
 // Context  Blocks as mc2_acquire. Not in an interrupt handler.

@@ -3,11 +3,16 @@
 // A *cell* is an object (queue, page pool, console ring or scheduler) behind a ticket lock or an MCS lock. A *caller* is one CPU's
 // right to use a cell; a cell has 1 to 64. mc2_objects.h has the objects, calls and replies, mc2_result.h the results.
 //
-//     struct mc2_object run_queue = {"runq", MC2_QUEUE, MC2_MCS, 1000, 64, 0, NULL};
-//     mc2_cell_open(&cell, &run_queue, callers, cpus);      opens a cell, with one caller per CPU
-//     mc2_queue_enq(&callers[cpu], 3, &reply);              acquires, enqueues thread 3, releases
-//     mc2_cell_close(&cell, callers, cpus);                 frees the callers, so that the log can be read
+//     struct mc2_object run_queue = {.name = "runq", .kind = MC2_QUEUE, .lock = MC2_MCS, .events = 1000, .size = 64};
+//     struct mc2_cell cell;
+//     struct mc2_caller callers[4];                         one for each CPU
+//     struct mc2_reply reply;
+//     mc2_cell_open(&cell, &run_queue, callers, 4);         opens the cell and its callers
+//     mc2_queue_enq(&callers[cpu], 3, &reply);              acquires the lock, enqueues thread 3, releases the lock
+//     mc2_cell_close(&cell, callers, 4);                    frees the callers, so that the log can be read
 //     mc2_cell_free(&cell, NULL, 0);
+//
+// All functions return 0 (MC2_DONE) for success. examples/c_cells/hello.c is a whole program.
 //
 // `tools/develop/library cells --unproved` compiles the library in a minute or two, to .unproved/libcells.a. Without the last word
 // it proves the library, to crates/cells/out/libcells.a. Link either with the heap of the Rattle kit, which uses malloc and free;
@@ -20,14 +25,14 @@
 //
 // CALLER OBLIGATIONS (not checked)
 //
-//   1. Open cells and callers with the functions below, and don't read or write their fields. Don't open an open one again, and
-//      don't use a caller after it is closed or freed.
+//   1. Open cells and callers with the functions below, and don't read or write their fields; they need no initialization. Don't
+//      open an open one again, and don't use a caller after it is closed or freed, except to close or free it again.
 //   2. Don't copy or move an open cell or caller. A cell stays in place until its last caller is freed.
-//   3. Use each cell handle and each caller from one thread at a time, also to read a closed cell's log. Hand them over with a
-//      lock, thread creation or join, or a seq_cst atomic. Different callers of one cell may be used concurrently.
+//   3. Use each struct mc2_cell and each caller from one thread at a time, even to read a closed cell's log. Hand them over with
+//      a lock, thread creation or join, or a seq_cst atomic. Different callers of one cell may be used concurrently.
 //   4. Return a caller to its own cell only.
 //   5. Pointers are valid and not NULL, and no other thread touches what they point to during the call.
-//   6. Don't call from a signal handler, from an interrupt handler that came within another call (see MC2_IRQ_OFF), or from a
+//   6. Don't call from a signal handler, from an interrupt handler that interrupted another call (see MC2_IRQ_OFF), or from a
 //      child forked from a multithreaded process. Don't cancel (pthread_cancel) a thread that may be in a call: a cancelled caller
 //      would keep its place in line, and no later caller would get the lock.
 //
@@ -42,14 +47,16 @@
 //   - MC2_NO_MEMORY occurs only if memory was refused; opening writes the memory of a log; a cell without a log allocates none for
 //     it; dropping a log frees it;
 //   - a try returns MC2_BUSY only if another caller holds the lock or is in line for it;
-//   - the reference count by which callers share a cell refuses a caller or a closing only for the reasons in mc2_cells_raw.h;
+//   - the reference count by which callers share a cell refuses to open a caller, or to close the cell, only for the reasons in
+//     mc2_cells_raw.h;
 //   - the structs here, and the numbers of mc2_objects.h and mc2_result.h, are the library's (Coding.antt and CodeNumbers.antt in
 //     crates/cell_callers/specs).
 //
 // MEMORY ORDERING
 //
-//   Every atomic operation of the library is sequentially consistent. By reading, not by a contract: everything that a caller did
-//   before it released the lock happens before everything that the next holder does after it acquired the lock.
+//   Every atomic operation of the library is sequentially consistent. We know from reading the code, not from a contract:
+//   everything that a caller did before it released the lock happens before everything that the next holder does after it
+//   acquired the lock.
 //
 // LOG
 //
@@ -62,7 +69,7 @@
 // FREESTANDING
 //
 //   Compile with -ffreestanding, and link only libcells.a. The kernel provides memcpy, memmove, memset, rattle_alloc and
-//   rattle_dealloc, of which mc2_heap.h has the last two. docs/IN_A_KERNEL.md says what each must do, and how much memory and
+//   rattle_dealloc; mc2_heap.h provides the last two. docs/IN_A_KERNEL.md says what each must do, and how much memory and
 //   stack the library needs.
 #ifndef MC2_CELLS_H
 #define MC2_CELLS_H
@@ -84,29 +91,18 @@
 
 #include "mc2_by_name.h"
 
-// ---- CPUs that come later. Most programs use mc2_cell_open, which opens all callers.
+// ---- Callers one by one, for CPUs added later. Most programs use mc2_cell_open and mc2_cell_close, which handle all callers.
 
-// Opens a cell without callers; mc2_caller_open creates them. Arguments, results and context as mc2_cell_open.
-static inline uint32_t mc2_cell_open_bare(struct mc2_cell *cell, const struct mc2_object *object, uint32_t cpus) {
-    struct mc2_cell_opening opening = {object->lock, object->kind, object->events, cpus, object->size, object->channels, {0}};
-    for (uint32_t owner = 0; owner < MC2_OWNERS; owner++)
-        opening.quotas[owner] = object->quotas ? object->quotas[owner] : object->size;
-    cell->impl = NULL;
-    cell->waiters.word = 0;
-    uint32_t result = MC2_ALLOCATING(mc2_handle_alloc(&cell->impl));
-    if (result != MC2_DONE)
-        return result;
-    result = MC2_ALLOCATING(mc2_handle_open_cell(cell, &opening));
-    if (result != MC2_DONE) {
-        struct mc2_handle handle = {cell->impl};
-        MC2_ALLOCATING(mc2_handle_free(handle));
-        cell->impl = NULL;
-    }
-    return result;
+// Internal: allocates a caller of no CPU yet.
+static inline uint32_t mc2_priv_caller_alloc(struct mc2_cell *cell, struct mc2_caller *caller) {
+    caller->impl = NULL;
+    caller->waiters = &cell->waiters;
+    caller->looks = 0;
+    return cell->impl ? MC2_ALLOCATING(mc2_handle_alloc(&caller->impl)) : (uint32_t)MC2_REFUSED;
 }
 
-// Frees an idle caller without returning it to its cell: its CPU has no caller any more, and the cell can't be closed. Does nothing
-// if the caller is closed or freed.
+// Abandons an idle caller: frees it without returning it to its cell. Its CPU has no caller any more, and the cell can't be closed.
+// mc2_caller_close returns a caller and frees it. Does nothing if the caller is closed or freed.
 // Returns  MC2_DONE; MC2_REFUSED: the caller is in line or holds the lock.
 // Context  Uses the heap. Not in an interrupt handler.
 static inline uint32_t mc2_caller_free(struct mc2_caller *caller) {
@@ -117,15 +113,12 @@ static inline uint32_t mc2_caller_free(struct mc2_caller *caller) {
     return result;
 }
 
-// Creates the caller of the highest CPU number that has none.
+// Creates the caller of the highest CPU number that has none: for (cpu = cpus; cpu-- > 0;) mc2_caller_open(&cell, &callers[cpu]);
 // Returns  MC2_DONE; MC2_REFUSED: every CPU has a caller, or the cell isn't open; MC2_NO_MEMORY. After an error there is nothing to
 //          free.
 // Context  Uses the heap. Not in an interrupt handler.
 static inline uint32_t mc2_caller_open(struct mc2_cell *cell, struct mc2_caller *caller) {
-    caller->impl = NULL;
-    caller->waiters = &cell->waiters;
-    caller->looks = 0;
-    uint32_t result = cell->impl ? MC2_ALLOCATING(mc2_handle_alloc(&caller->impl)) : (uint32_t)MC2_REFUSED;
+    uint32_t result = mc2_priv_caller_alloc(cell, caller);
     if (result != MC2_DONE)
         return result;
     result = MC2_ALLOCATING(mc2_handle_open_caller(cell, caller));
@@ -146,28 +139,50 @@ static inline uint32_t mc2_caller_close(struct mc2_cell *cell, struct mc2_caller
 
 // ---- Open, close, free
 
+// Internal: frees the callers that are idle.
+static inline void mc2_priv_callers_free(struct mc2_caller *callers, uint32_t count) {
+    for (uint32_t at = 0; at < count; at++)
+        mc2_caller_free(&callers[at]);
+}
+
 // Frees a cell, open or closed, and those of `callers` that are idle. Other callers still work: free each with mc2_caller_free once
 // it is idle. A cell or caller that is freed already is skipped.
 //   count    the number of callers in `callers`, which may be NULL if it is 0
 // Context  Uses the heap. Not in an interrupt handler.
 static inline void mc2_cell_free(struct mc2_cell *cell, struct mc2_caller *callers, uint32_t count) {
     struct mc2_handle handle = {cell->impl};
-    for (uint32_t at = 0; at < count; at++)
-        mc2_caller_free(&callers[at]);
+    mc2_priv_callers_free(callers, count);
     if (cell->impl)
         MC2_ALLOCATING(mc2_handle_free(handle));
     cell->impl = NULL;
 }
 
+// Internal: opens a cell without callers.
+static inline uint32_t mc2_priv_cell_open(struct mc2_cell *cell, const struct mc2_object *object, uint32_t cpus) {
+    struct mc2_cell_opening opening = {object->lock, object->kind, object->events, cpus, object->size, object->channels, {0}};
+    for (uint32_t owner = 0; owner < MC2_OWNERS; owner++)
+        opening.quotas[owner] = object->quotas ? object->quotas[owner] : object->size;
+    cell->impl = NULL;
+    cell->waiters.word = 0;
+    uint32_t result = MC2_ALLOCATING(mc2_handle_alloc(&cell->impl));
+    if (result != MC2_DONE)
+        return result;
+    result = MC2_ALLOCATING(mc2_handle_open_cell(cell, &opening));
+    if (result != MC2_DONE)
+        mc2_cell_free(cell, NULL, 0);
+    return result;
+}
+
 // Opens a cell around a new object, with one caller for each CPU: callers[k] is CPU k's.
 //   object   its name is ignored; 0 events: no log is kept
-//   cpus     1 to 64; `callers` has room for this many
+//   callers  room for `cpus` callers; NULL: none is opened, mc2_caller_open creates them
+//   cpus     1 to 64
 // Returns  MC2_DONE; MC2_BAD_PARAM: an argument is out of range; MC2_NO_MEMORY. After an error there is nothing to free.
 // Context  Uses the heap. Not in an interrupt handler.
 static inline uint32_t mc2_cell_open(struct mc2_cell *cell, const struct mc2_object *object, struct mc2_caller *callers,
                                      uint32_t cpus) {
-    uint32_t result = mc2_cell_open_bare(cell, object, cpus), first = cpus;
-    if (result != MC2_DONE)
+    uint32_t result = mc2_priv_cell_open(cell, object, cpus), first = cpus;
+    if (result != MC2_DONE || !callers)
         return result;
     while (result == MC2_DONE && first > 0)
         result = mc2_caller_open(cell, &callers[--first]);
@@ -178,9 +193,9 @@ static inline uint32_t mc2_cell_open(struct mc2_cell *cell, const struct mc2_obj
 
 // Closes a cell and frees its callers. The object and its log remain: read the log (mc2_cell_read_step), drop it
 // (mc2_cell_drop_log), continue (mc2_cell_reopen), or free the cell.
-//   callers  the cell's callers, by ascending CPU. Those that are closed already may be left out; NULL if `count` is 0
+//   callers  the cell's callers, in ascending order of CPU. Those that are closed already may be left out; NULL if `count` is 0
 // Returns  MC2_DONE; MC2_REFUSED: a caller isn't idle or is left out, or the cell isn't open. The first caller that isn't idle and
-//          those after it are unchanged: call again later.
+//          those after it are unchanged: call again later, with the same array.
 // Context  Uses the heap. Not in an interrupt handler.
 static inline uint32_t mc2_cell_close(struct mc2_cell *cell, struct mc2_caller *callers, uint32_t count) {
     uint32_t result = cell->impl ? MC2_DONE : MC2_REFUSED;
@@ -225,13 +240,13 @@ static inline uint32_t mc2_try_acquire(struct mc2_caller *caller) {
 // Returns  MC2_DONE; MC2_LOG_FULL, MC2_NOT_FOUND (no such call): nothing was done; MC2_REFUSED: the caller doesn't hold the lock.
 // Context  Doesn't wait. Interrupt handlers may call it, with a caller of their own.
 static inline uint32_t mc2_apply(struct mc2_caller *caller, const struct mc2_call *call, struct mc2_reply *reply) {
-    return MC2_IRQ_OFF(mc2_apply_step(caller, call, reply));
+    return MC2_IRQ_OFF(mc2_handle_apply(caller, call, reply));
 }
 
 // Releases the lock.
 // Returns  MC2_DONE; MC2_REFUSED: the caller doesn't hold the lock.
-// Context  A ticket lock doesn't wait. An MCS lock waits, as mc2_acquire does, if a successor has entered the queue and hasn't linked
-//          itself yet. Interrupt handlers may call it, with a caller of their own.
+// Context  A ticket lock doesn't wait. An MCS lock waits, as mc2_acquire does, if a successor has entered the queue but hasn't
+//          linked itself yet. Interrupt handlers may call it, with a caller of their own.
 // Ordering Release: the next holder sees everything that was done before.
 static inline uint32_t mc2_release(struct mc2_caller *caller) {
     for (uint64_t failed = 0;;) {
@@ -313,13 +328,13 @@ static inline uint32_t mc2_cell_try_call(struct mc2_caller *caller, const struct
     return mc2_priv_call_release(caller, MC2_IRQ_OFF(mc2_poll_try_call(caller, call, reply)));
 }
 
-// Returns the looks of the caller's last mc2_acquire, mc2_cell_call, mc2_cell_batch or call by name: how often it read whether its
-// turn had come. Recorders note this number.
+// Returns the looks of the caller's last mc2_acquire, mc2_cell_call, mc2_cell_batch or call by name: how often it checked whether
+// its turn had come, 0 if it entered an empty MCS queue. Tries don't change this number. Recorders note it.
 static inline uint64_t mc2_caller_looks(const struct mc2_caller *caller) { return caller->looks; }
 
 // ---- The log of a closed cell
 
-// Reads one step of the log.
+// Reads one step of the log. To read all, read events 0, 1, .. until MC2_NOT_FOUND.
 //   event, index   the event, and the step in it, both from 0; an event has one step for each of its 1 to 8 calls
 //   step           out, on MC2_DONE
 // Returns  MC2_DONE; MC2_NOT_FOUND: there is no such step, the cell isn't closed, or its log isn't kept.
@@ -335,13 +350,28 @@ static inline uint32_t mc2_cell_drop_log(struct mc2_cell *cell) {
     return cell->impl ? MC2_ALLOCATING(mc2_handle_drop_log(cell)) : (uint32_t)MC2_REFUSED;
 }
 
-// Reopens a closed cell on its object. The log continues with the room that was left. Create the callers with mc2_caller_open.
+// Reopens a closed cell, with the object that it has, and opens its callers. Earlier events stay in the log; new ones get the next
+// numbers, and have the room that was left.
 //   lock     enum mc2_lock_kind; it may differ from before
-//   cpus     1 to 64
-// Returns  MC2_DONE; MC2_REFUSED: the cell isn't closed; MC2_BAD_PARAM, MC2_NO_MEMORY: it is still closed, as before.
+//   callers, cpus   as mc2_cell_open
+// Returns  MC2_DONE; MC2_REFUSED: the cell isn't closed; MC2_BAD_PARAM, MC2_NO_MEMORY. After an error the cell and `callers` are
+//          unchanged.
 // Context  Uses the heap. Not in an interrupt handler.
-static inline uint32_t mc2_cell_reopen(struct mc2_cell *cell, uint32_t lock, uint32_t cpus) {
-    return cell->impl ? MC2_ALLOCATING(mc2_handle_reopen_cell(cell, lock, cpus)) : (uint32_t)MC2_REFUSED;
+static inline uint32_t mc2_cell_reopen(struct mc2_cell *cell, uint32_t lock, struct mc2_caller *callers, uint32_t cpus) {
+    struct mc2_caller opened[MC2_MOST_CPUS];
+    uint32_t wanted = callers && cpus <= MC2_MOST_CPUS ? cpus : 0, at = 0;
+    uint32_t result = cell->impl ? MC2_DONE : MC2_REFUSED;
+    for (; result == MC2_DONE && at < wanted; at++)
+        result = mc2_priv_caller_alloc(cell, &opened[at]);
+    if (result == MC2_DONE)
+        result = MC2_ALLOCATING(mc2_handle_reopen_cell(cell, lock, cpus));
+    if (result != MC2_DONE)
+        mc2_priv_callers_free(opened, at);
+    for (at = wanted; result == MC2_DONE && at > 0; at--) {
+        callers[at - 1] = opened[at - 1];
+        result = MC2_ALLOCATING(mc2_handle_open_caller(cell, &callers[at - 1]));
+    }
+    return result;
 }
 
 #endif

@@ -1,15 +1,18 @@
 // mc2_cells.hpp - cells, callers and holds as classes of C++17, over mc2_cells.h.
 //
-// Each function does what the function of that name in mc2_cells.h does, with its context and ordering. Destructors free cells and
-// callers, and release locks.
+// Each function does what its function in mc2_cells.h does, with the same context and ordering: cell::open is mc2_cell_open,
+// caller::call mc2_cell_call, caller::acquire mc2_acquire, hold::apply mc2_apply. There are no calls by name: use mc2_call_of.
+// Destructors free cells and callers, and release locks.
 //
 //     std::vector<mc2::caller> callers(cpus);
 //     mc2::expected<mc2::cell> cell = mc2::cell::open(run_queue, callers.data(), cpus);
+//     if (!cell)
+//         return cell.result();
 //     mc2::expected<mc2_reply> reply = callers[cpu].call(mc2_call_of(MC2_ENQ, 3, 0));
 //     cell->close(callers.data(), cpus);
 //
 // A cell, caller or hold is empty if it was moved from, freed, closed (a caller), released (a hold) or never opened. Its functions
-// then return MC2_REFUSED. Nothing here throws, and it compiles with -fno-exceptions. Nothing here is proved.
+// then return MC2_REFUSED; free() does nothing. Nothing here throws, and it compiles with -fno-exceptions. Nothing here is proved.
 //
 // The caller obligations of mc2_cells.h apply, but a cell and an idle caller may be moved while no other thread uses them. Also: a
 // caller outlives its hold, and isn't moved or freed while the hold exists. After a cell's destructor its callers may only be
@@ -45,7 +48,7 @@ template <typename Value> class [[nodiscard]] expected {
     mc2_result result_;
 };
 
-// Internal: a result of C, without and with the value that is valid if it is MC2_DONE.
+// Internal: a C result, without and with the value that is valid if it is MC2_DONE.
 inline mc2_result priv_result(uint32_t result) { return static_cast<mc2_result>(result); }
 template <typename Value> expected<Value> priv_result(uint32_t result, const Value &value) {
     return result == MC2_DONE ? expected<Value>(value) : expected<Value>(priv_result(result));
@@ -73,8 +76,8 @@ class hold {
     std::unique_ptr<mc2_caller, releaser> caller_;
 };
 
-// One CPU's right to use a cell, for one thread at a time. The destructor frees it; while the caller is in line or holds the lock
-// this isn't possible, and its memory is lost.
+// One CPU's right to use a cell, for one thread at a time. The destructor frees it. That fails while the caller is in line or
+// holds the lock, and its memory is lost.
 class caller {
   public:
     caller() : impl_() {}
@@ -85,6 +88,7 @@ class caller {
     }
     ~caller() { free(); }
 
+    // Creates the caller of the highest CPU that has none.
     static expected<caller> open(class cell &cell);
     // A caller of another cell is refused.
     mc2_result close(class cell &cell);
@@ -100,6 +104,7 @@ class caller {
 
   private:
     friend class cell;
+    explicit caller(const mc2_caller &opened) : impl_(opened) {}
     template <typename Call, typename Reply>
     expected<Reply> perform(uint32_t (*function)(mc2_caller *, const Call *, Reply *), const Call &call) {
         Reply reply = {};
@@ -115,8 +120,10 @@ class caller {
 class cell {
   public:
     static expected<cell> open(const mc2_object &object, caller *callers, uint32_t cpus) {
-        expected<cell> opened = open_bare(object, cpus);
-        for (uint32_t cpu = cpus; opened && cpu > 0;) {
+        cell made(new (std::nothrow) mc2_cell());
+        mc2_result result = made.impl_ ? priv_result(mc2_cell_open(made.impl_.get(), &object, nullptr, cpus)) : MC2_NO_MEMORY;
+        expected<cell> opened = result == MC2_DONE ? expected<cell>(std::move(made)) : expected<cell>(result);
+        for (uint32_t cpu = callers ? cpus : 0; opened && cpu > 0;) {
             expected<caller> next = caller::open(*opened);
             if (next)
                 callers[--cpu] = std::move(*next);
@@ -124,11 +131,6 @@ class cell {
                 opened->free(callers + cpu, cpus - cpu), opened = next.result();
         }
         return opened;
-    }
-    static expected<cell> open_bare(const mc2_object &object, uint32_t cpus) {
-        cell opened(new (std::nothrow) mc2_cell());
-        mc2_result result = opened.impl_ ? priv_result(mc2_cell_open_bare(opened.impl_.get(), &object, cpus)) : MC2_NO_MEMORY;
-        return result == MC2_DONE ? expected<cell>(std::move(opened)) : expected<cell>(result);
     }
 
     mc2_result close(caller *callers = nullptr, uint32_t count = 0) {
@@ -149,7 +151,13 @@ class cell {
         return get() ? priv_result(mc2_cell_read_step(get(), event, index, &step), step) : MC2_REFUSED;
     }
     mc2_result drop_log() { return get() ? priv_result(mc2_cell_drop_log(get())) : MC2_REFUSED; }
-    mc2_result reopen(uint32_t lock, uint32_t cpus) { return get() ? priv_result(mc2_cell_reopen(get(), lock, cpus)) : MC2_REFUSED; }
+    mc2_result reopen(uint32_t lock, caller *callers, uint32_t cpus) {
+        mc2_caller opened[MC2_MOST_CPUS];
+        uint32_t result = get() ? mc2_cell_reopen(get(), lock, callers ? opened : nullptr, cpus) : (uint32_t)MC2_REFUSED;
+        for (uint32_t cpu = 0; callers && result == MC2_DONE && cpu < cpus; cpu++)
+            callers[cpu] = caller(opened[cpu]);
+        return priv_result(result);
+    }
     mc2_result write_record_to(const mc2_object &object, const mc2_cell_noted *noted, uint32_t cpus, mc2_write_fn write, void *to) {
         return get() ? static_cast<mc2_result>(mc2_cell_write_record_to(get(), &object, noted, cpus, write, to)) : MC2_REFUSED;
     }

@@ -6,7 +6,7 @@
 // Common to all of them:
 //   Returns   MC2_REFUSED if the handle isn't in a state that the function needs. A refused call changes nothing.
 //   Context   Non-blocking: none waits for another CPU. Those marked [heap] call rattle_alloc or rattle_dealloc. An interrupt
-//             handler may call only mc2_poll_try_acquire, mc2_poll_try_call, mc2_apply_step and mc2_release_step, by a caller of
+//             handler may call only mc2_poll_try_acquire, mc2_poll_try_call, mc2_handle_apply and mc2_release_step, by a caller of
 //             a CPU number of its own, and not if it came within another call of this header. So where handlers call objects,
 //             disable interrupts around each call (MC2_IRQ_OFF).
 //   Locking   One call at a time per cell handle and per caller. Different callers of one cell may be used concurrently.
@@ -106,7 +106,7 @@ uint32_t mc2_poll_try_acquire(struct mc2_caller *caller);
 
 // Performs one call as one event of the log. The caller must hold the lock.
 // Returns  MC2_DONE: *reply is written; MC2_LOG_FULL, MC2_NOT_FOUND: nothing was done; MC2_REFUSED: it doesn't hold the lock.
-uint32_t mc2_apply_step(struct mc2_caller *caller, const struct mc2_call *call, struct mc2_reply *reply);
+uint32_t mc2_handle_apply(struct mc2_caller *caller, const struct mc2_call *call, struct mc2_reply *reply);
 
 // ---- Whole calls, without waiting
 

@@ -21,11 +21,11 @@ enum { MC2_OWNERS = 16 };
 // A FIFO queue of threads; a pool of pages with quotas; a ring buffer of bytes; a scheduler's ready queue with sleep channels.
 enum mc2_kind { MC2_QUEUE, MC2_POOL, MC2_CONSOLE, MC2_SCHED, MC2_KINDS };
 
-// The lock of an object. It isn't judged: the record of a lock of another sort has either.
+// The lock of an object. `mc2 audit` ignores it: for a lock of another sort write either.
 enum mc2_lock_kind { MC2_TICKET, MC2_MCS, MC2_LOCKS };
 
-// Calls: of a queue (MC2_ENQ to MC2_LEN) and a pool (to MC2_LEFT); of a console (to MC2_LEVEL) and a scheduler. mc2_by_name.h
-// describes each, with its replies.
+// The calls of a queue (MC2_ENQ to MC2_LEN), a pool (MC2_ALLOC to MC2_LEFT), a console (MC2_PUT to MC2_LEVEL) and a scheduler
+// (MC2_READY to MC2_WAKEALL). mc2_by_name.h describes each, with its arguments and replies.
 enum mc2_call_word {
     MC2_ENQ, MC2_DEQ, MC2_REMOVE, MC2_LEN, MC2_ALLOC, MC2_FREE, MC2_LEFT,
     MC2_PUT, MC2_GET, MC2_LEVEL, MC2_READY, MC2_NEXT, MC2_SLEEP, MC2_WAKE, MC2_WAKEALL, MC2_CALL_WORDS
@@ -53,13 +53,14 @@ struct mc2_object {
     const uint32_t *quotas;
 };
 
-// A call: an enum mc2_call_word and its arguments. An argument that the call doesn't have is ignored.
+// A call: an enum mc2_call_word, and the arguments of the function of that name in mc2_by_name.h, without caller and reply.
+// Arguments that the call doesn't have are ignored.
 struct mc2_call { uint32_t word, first, second; };
 
 // A reply: an enum mc2_reply_word, and its number, or 0 if that word has none.
 struct mc2_reply { uint32_t word, number; };
 
-// A call with its reply. A number that the reply doesn't have is ignored.
+// A call with its reply: an enum mc2_reply_word, and its number, which is ignored if that word has none.
 struct mc2_step {
     struct mc2_call call;
     uint32_t reply, number;

@@ -11,14 +11,15 @@ enum mc2_result {
 
     // The caller is in line and its turn hasn't come: pause, then call again.
     MC2_AGAIN = 1,
-    // The caller holds the lock: it entered an empty MCS queue, without a look; or a look showed that its turn has come.
+    // The caller holds the lock: it entered an empty MCS queue, without a look.
     MC2_ACQUIRED = 2,
+    // The caller holds the lock: a look showed that its turn has come.
     MC2_ACQUIRED_BY_LOOK = 3,
     // The lock is released, and the caller is idle.
     MC2_RELEASED = 4,
     // The cell or the caller isn't in a state that allows the call, or a batch has 0 or more than 8 calls. Nothing was changed.
     MC2_REFUSED = 5,
-    // A try: another caller holds the lock or is in line for it. Closing: the library still shares the cell, which doesn't happen
+    // From a try: another caller holds the lock or is in line for it. From closing: the library still shares the cell, which doesn't happen
     // if the obligations of mc2_cells.h are met.
     MC2_BUSY = 6,
     // One step of the lock is done. Take the next without a pause.
@@ -27,8 +28,9 @@ enum mc2_result {
     MC2_LOG_FULL = 8,
     // There is no such call, or no such step in the log.
     MC2_NOT_FOUND = 9,
-    // Opening: the allocator had no memory, or there is too little of it; an argument is out of range. Nothing was opened.
+    // From opening: the allocator had no memory, or the memory given is too small. Nothing was opened.
     MC2_NO_MEMORY = 10,
+    // From opening: an argument is out of range. Nothing was opened.
     MC2_BAD_PARAM = 11,
     // Whole calls without waiting: as MC2_DONE and MC2_LOG_FULL, but the caller still holds the lock and has to release it.
     MC2_DONE_HELD = 12,
@@ -38,12 +40,14 @@ enum mc2_result {
 
     // The CPU's memory for its notes is full. Nothing was noted.
     MC2_TRANSCRIPT_FULL = 32,
-    // A pointer is NULL; there is no such object, or its description is wrong; there is no such CPU; a number of calls, steps,
-    // objects, CPUs or entries is out of range, or the recorder isn't open; there is no such call or reply, or a byte is above 255.
+    // A pointer is NULL.
     MC2_BAD_POINTER = 33,
+    // There is no such object, or its description is wrong.
     MC2_BAD_OBJECT = 34,
     MC2_BAD_CPU = 35,
+    // A number of calls, steps, objects, CPUs or entries is out of range, or the recorder isn't open.
     MC2_BAD_COUNT = 36,
+    // There is no such call or reply, or a byte is above 255.
     MC2_BAD_STEP = 37,
     // Two CPUs were inside one lock at the same time.
     MC2_MIXED = 38,

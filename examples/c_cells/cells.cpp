@@ -113,7 +113,7 @@ int main(int count, char **words) {
     mc2_object object = {"shared", MC2_QUEUE, is_mcs ? (uint32_t)MC2_MCS : (uint32_t)MC2_TICKET, MC2_MOST_EVENTS, QUEUE, 0, NULL};
     std::vector<mc2::caller> callers((size_t)cpus);
     mc2::caller other_caller;
-    must(mc2::cell::open_bare(object, MC2_MOST_CPUS + 1).result(), MC2_BAD_PARAM, "opening for too many CPUs");
+    must(mc2::cell::open(object, nullptr, MC2_MOST_CPUS + 1).result(), MC2_BAD_PARAM, "opening for too many CPUs");
     mc2::expected<mc2::cell> cell = mc2::cell::open(object, callers.data(), (uint32_t)cpus);
     must(cell.result(), MC2_DONE, "opening");
     mc2::expected<mc2::cell> other = mc2::cell::open(object, &other_caller, 1);

@@ -108,13 +108,13 @@ int main(int count, char **words) {
     if (mc2_recorder_open(&recorder, &whole, 1, MANY, 6 * (uint32_t)calls) != MC2_DONE)
         must(MC2_NO_MEMORY, MC2_DONE, "the record");
     struct mc2_cell cell;
-    must(mc2_cell_open_bare(&cell, &object, FEW), MC2_DONE, "opening");
+    must(mc2_cell_open(&cell, &object, NULL, FEW), MC2_DONE, "opening");
     must(live(&cell, workers, FEW), 0, "calls that the first life refused");
-    must(mc2_cell_reopen(&cell, other, FEW), MC2_DONE, "reopening");
+    must(mc2_cell_reopen(&cell, other, NULL, FEW), MC2_DONE, "reopening");
     must(live(&cell, workers, FEW), 2 * asked - room, "calls that the second life refused");
     note_events(&cell, room);
     must(mc2_cell_drop_log(&cell), MC2_DONE, "dropping the log");
-    must(mc2_cell_reopen(&cell, lock, MANY), MC2_DONE, "reopening without a log");
+    must(mc2_cell_reopen(&cell, lock, NULL, MANY), MC2_DONE, "reopening without a log");
     is_dropped = true;
     must(live(&cell, workers, MANY), 0, "calls that the third life refused");
     must((uint32_t)mc2_recorder_write(&recorder, stdout), MC2_DONE, "writing");

@@ -64,10 +64,10 @@ static long after_calls(struct worker *workers, uint32_t calls) {
 static void open_wrongly(struct mc2_object object) {
     struct mc2_cell cell;
     object.events = MC2_MOST_EVENTS + 1;
-    must(mc2_cell_open_bare(&cell, &object, THREADS), MC2_BAD_PARAM, "opening for too many events");
+    must(mc2_cell_open(&cell, &object, NULL, THREADS), MC2_BAD_PARAM, "opening for too many events");
     object.events = 0;
     object.size = 0;
-    must(mc2_cell_open_bare(&cell, &object, THREADS), MC2_BAD_PARAM, "opening a queue of no threads");
+    must(mc2_cell_open(&cell, &object, NULL, THREADS), MC2_BAD_PARAM, "opening a queue of no threads");
 }
 
 /* Closes the cell, whose log has no step to be read. */
@@ -92,7 +92,7 @@ int main(int count, char **words) {
     struct mc2_object object = {"shared", MC2_QUEUE, is_mcs ? MC2_MCS : MC2_TICKET, 0, QUEUE, 0, NULL};
     struct mc2_cell cell;
     open_wrongly(object);
-    must(mc2_cell_open_bare(&cell, &object, THREADS), MC2_DONE, "opening");
+    must(mc2_cell_open(&cell, &object, NULL, THREADS), MC2_DONE, "opening");
     for (int at = THREADS; at-- > 0;)
         must(mc2_caller_open(&cell, &workers[at].caller), MC2_DONE, "a caller");
     uint32_t half = (uint32_t)calls / (2 * THREADS);

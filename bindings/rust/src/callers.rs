@@ -91,7 +91,7 @@ impl<K> Hold<'_, '_, K> {
     /// Performs one call as one event of the log. Errors: `Refused`, `LogFull`.
     pub fn apply<T: Answer>(&mut self, call: Call<K, T>) -> Result<T, Error> {
         let mut reply = [0; 2];
-        done(mc2_apply_step(&mut self.0.handle, &call.0, &mut reply))?;
+        done(mc2_handle_apply(&mut self.0.handle, &call.0, &mut reply))?;
         Reply(reply).answer()
     }
     /// Releases the lock, as dropping the hold does.

@@ -58,7 +58,7 @@ unsafe extern "C" {
     pub safe fn mc2_acquire_step(caller: &mut Handle) -> u32;
     pub safe fn mc2_release_step(caller: &mut Handle) -> u32;
     pub safe fn mc2_poll_try_acquire(caller: &mut Handle) -> u32;
-    pub safe fn mc2_apply_step(caller: &mut Handle, call: &CallWords, reply: &mut ReplyWords) -> u32;
+    pub safe fn mc2_handle_apply(caller: &mut Handle, call: &CallWords, reply: &mut ReplyWords) -> u32;
     pub safe fn mc2_poll_call(caller: &mut Handle, call: &CallWords, reply: &mut ReplyWords, looks: &mut u64) -> u32;
     pub safe fn mc2_poll_batch(
         caller: &mut Handle, batch: &Batch<CallWords>, replies: &mut Batch<ReplyWords>, looks: &mut u64,

@@ -6,7 +6,7 @@ mod handles;
 mod names;
 
 pub use exports::{
-    mc2_acquire_step, mc2_apply_step, mc2_poll_batch, mc2_poll_call, mc2_poll_try_acquire,
+    mc2_acquire_step, mc2_handle_apply, mc2_poll_batch, mc2_poll_call, mc2_poll_try_acquire,
     mc2_poll_try_call, mc2_release_step,
 };
 pub use handles::{

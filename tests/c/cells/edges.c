@@ -140,7 +140,7 @@ static void busy_caller(void) {
     struct mc2_reply reply = {77, 77};
     must(mc2_handle_open_cell(&cell, &opening), MC2_DONE, "opening");
     open_all(&cell, callers, 2);
-    must(mc2_apply_step(&callers[0], &asked, &reply), MC2_REFUSED, "a call without the lock");
+    must(mc2_handle_apply(&callers[0], &asked, &reply), MC2_REFUSED, "a call without the lock");
     must(mc2_release_step(&callers[0]), MC2_REFUSED, "releasing a lock that isn't held");
     must(mc2_acquire(&callers[0]), MC2_DONE, "acquiring");
     must(mc2_caller_free(&callers[0]), MC2_REFUSED, "freeing the holder");
@@ -148,10 +148,10 @@ static void busy_caller(void) {
     must(mc2_poll_try_acquire(&callers[0]), MC2_REFUSED, "a try of the holder");
     must(mc2_handle_return_caller(&cell, &callers[0]), MC2_REFUSED, "returning the holder");
     must(mc2_poll_try_acquire(&callers[1]), MC2_BUSY, "a try of a lock that is held");
-    must(mc2_apply_step(&callers[0], &none, &reply), MC2_NOT_FOUND, "no such call");
-    must(mc2_apply_step(&callers[0], &wide, &reply), MC2_NOT_FOUND, "no such byte");
+    must(mc2_handle_apply(&callers[0], &none, &reply), MC2_NOT_FOUND, "no such call");
+    must(mc2_handle_apply(&callers[0], &wide, &reply), MC2_NOT_FOUND, "no such byte");
     must_be(reply.word == 77 && reply.number == 77, "no reply");
-    must(mc2_apply_step(&callers[0], &asked, &reply), MC2_DONE, "a call of the holder, which wasn't freed");
+    must(mc2_handle_apply(&callers[0], &asked, &reply), MC2_DONE, "a call of the holder, which wasn't freed");
     must(mc2_acquire_step(&callers[1]), MC2_STEPPED, "a step of the other");
     must(mc2_caller_free(&callers[1]), MC2_REFUSED, "freeing a caller in line");
     must(mc2_release(&callers[0]), MC2_DONE, "releasing");
@@ -242,7 +242,7 @@ static void whole_calls(void) {
     must(whole(&callers[1], MC2_LEN, 0), MC2_AGAIN, "the same again");
     must_be(looks == 2 && reply.word == 77, "two looks, and no reply");
     asked = mc2_call_of(MC2_ENQ, 7, 0);
-    must(mc2_apply_step(&callers[0], &asked, &reply), MC2_DONE, "a call");
+    must(mc2_handle_apply(&callers[0], &asked, &reply), MC2_DONE, "a call");
     must(mc2_release(&callers[0]), MC2_DONE, "releasing");
     held_call(&callers[1], &callers[2]);
     return_all(&cell, callers, 3);

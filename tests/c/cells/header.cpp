@@ -53,7 +53,7 @@ static void refuse_cell(mc2::cell &cell, mc2::caller &caller, const mc2_object &
     must(cell.close(&caller, 1), MC2_REFUSED, "close of an empty cell with a caller");
     must(cell.read_step(0, 0).result(), MC2_REFUSED, "read_step of an empty cell");
     must(cell.drop_log(), MC2_REFUSED, "drop_log of an empty cell");
-    must(cell.reopen(MC2_MCS, 1), MC2_REFUSED, "reopen of an empty cell");
+    must(cell.reopen(MC2_MCS, nullptr, 1), MC2_REFUSED, "reopen of an empty cell");
     must(cell.write_record_to(object, &noted, 1, mc2_write_to_file, stdout), MC2_REFUSED, "write_record_to of an empty cell");
     cell.free();
 }
@@ -111,7 +111,11 @@ static void end(const mc2_object &object) {
     must(cell->close(callers, 3), MC2_REFUSED, "close of a closed cell");
     must(cell->read_step(0, 0).result(), MC2_NOT_FOUND, "read_step of an empty log");
     must(cell->drop_log(), MC2_DONE, "drop_log");
-    must(cell->reopen(MC2_TICKET, 1), MC2_DONE, "reopen");
+    must(cell->reopen(MC2_LOCKS, callers, 3), MC2_BAD_PARAM, "reopen with no such lock");
+    must(cell->reopen(MC2_MCS, callers, 3), MC2_DONE, "reopen with callers");
+    must(callers[2].call(len).result(), MC2_DONE, "call of the reopened cell");
+    must(cell->close(callers, 3), MC2_DONE, "close of the reopened cell");
+    must(cell->reopen(MC2_TICKET, nullptr, 1), MC2_DONE, "reopen");
     mc2::expected<mc2::caller> caller = mc2::caller::open(*cell);
     must(caller->call(len).result(), MC2_DONE, "call of the reopened cell");
     cell->free(&*caller, 1);

@@ -34,7 +34,7 @@ static void check_no_cell(void) {
     must(mc2_cell_close(&cell, NULL, 0), MC2_REFUSED, "closing no cell");
     must(mc2_cell_read_step(&cell, 0, 0, &step), MC2_NOT_FOUND, "reading the log of no cell");
     must(mc2_cell_drop_log(&cell), MC2_REFUSED, "dropping the log of no cell");
-    must(mc2_cell_reopen(&cell, lock, 1), MC2_REFUSED, "reopening no cell");
+    must(mc2_cell_reopen(&cell, lock, NULL, 1), MC2_REFUSED, "reopening no cell");
     must(mc2_caller_open(&cell, &caller), MC2_REFUSED, "a caller of no cell");
     must_be(caller.impl == NULL && blocks == 0, "nothing to free");
     must(mc2_caller_close(&cell, &caller), MC2_DONE, "closing no caller");
@@ -46,7 +46,7 @@ static void failed_opens(void) {
     struct mc2_object wrong = queue_of(65537), queue = queue_of(10);
     must(mc2_cell_open(&cell, &wrong, callers, CPUS), MC2_BAD_PARAM, "opening for too many events");
     check_no_cell();
-    must(mc2_cell_open_bare(&cell, &queue, 65), MC2_BAD_PARAM, "opening for too many CPUs");
+    must(mc2_cell_open(&cell, &queue, NULL, 65), MC2_BAD_PARAM, "opening for too many CPUs");
     check_no_cell();
     must(mc2_cell_open(&cell, &queue, callers, UINT32_MAX), MC2_BAD_PARAM, "opening for far too many CPUs");
     check_no_cell();
@@ -125,18 +125,24 @@ static void full_log(void) {
     must(mc2_queue_len(&callers[2], &reply), MC2_LOG_FULL, "a call that finds the log full");
     must(mc2_cell_read_step(&cell, 0, 0, &step), MC2_NOT_FOUND, "reading the log of an open cell");
     must(mc2_cell_drop_log(&cell), MC2_REFUSED, "dropping the log of an open cell");
-    must(mc2_cell_reopen(&cell, lock, 1), MC2_REFUSED, "reopening an open cell");
+    must(mc2_cell_reopen(&cell, lock, callers, CPUS), MC2_REFUSED, "reopening an open cell, whose callers stay");
     must(mc2_cell_close(&cell, callers, CPUS), MC2_DONE, "closing");
     must(mc2_cell_read_step(&cell, 1, 0, &step), MC2_DONE, "reading the log");
     must_be(step.cpu == 1 && step.step.call.word == MC2_ENQ && step.step.call.first == 4, "the step");
     must(mc2_cell_read_step(&cell, 2, 0, &step), MC2_NOT_FOUND, "no such step");
-    must(mc2_cell_reopen(&cell, MC2_LOCKS, 1), MC2_BAD_PARAM, "reopening with no such lock");
+    must(mc2_cell_reopen(&cell, MC2_LOCKS, callers, CPUS), MC2_BAD_PARAM, "reopening with no such lock");
+    must(mc2_cell_reopen(&cell, lock, callers, MC2_MOST_CPUS + 1), MC2_BAD_PARAM, "reopening for too many CPUs");
+    must_be(!callers[0].impl, "a caller that a refused reopening left closed");
     must(mc2_cell_drop_log(&cell), MC2_DONE, "dropping the log");
-    must(mc2_cell_reopen(&cell, !lock, 1), MC2_DONE, "reopening");
+    must(mc2_cell_reopen(&cell, !lock, NULL, 1), MC2_DONE, "reopening without callers");
     must(mc2_caller_open(&cell, &callers[0]), MC2_DONE, "a caller");
-    must(mc2_queue_len(&callers[0], &reply), MC2_DONE, "a call of the reopened cell");
-    must_be(reply.number == 2, "its reply");
-    mc2_cell_free(&cell, callers, 1);
+    must(mc2_cell_close(&cell, callers, 1), MC2_DONE, "closing again");
+    must(mc2_cell_reopen(&cell, lock, callers, CPUS), MC2_DONE, "reopening with callers");
+    for (uint32_t cpu = 0; cpu < CPUS; cpu++) {
+        must(mc2_queue_len(&callers[cpu], &reply), MC2_DONE, "a call of the reopened cell");
+        must_be(reply.number == 2, "its reply");
+    }
+    mc2_cell_free(&cell, callers, CPUS);
     check_no_cell();
 }
 

@@ -68,7 +68,7 @@ static uint32_t open_callers(struct opened *it) {
 static uint32_t open_all(struct opened *it, const struct mc2_object *object, uint32_t cpus) {
     memset(it, 0, sizeof *it);
     it->cpus = cpus;
-    uint32_t result = mc2_cell_open_bare(&it->cell, object, cpus);
+    uint32_t result = mc2_cell_open(&it->cell, object, NULL, cpus);
     it->of_cell = taken();
     return result == MC2_DONE ? open_callers(it) : result;
 }

@@ -63,7 +63,7 @@ uint32_t mc2_release_step(struct mc2_caller *caller) { return (void)caller, answ
 
 uint32_t mc2_poll_try_acquire(struct mc2_caller *caller) { return (void)caller, answer(&none, MC2_ACQUIRED_BY_LOOK); }
 
-uint32_t mc2_apply_step(struct mc2_caller *caller, const struct mc2_call *call, struct mc2_reply *reply) {
+uint32_t mc2_handle_apply(struct mc2_caller *caller, const struct mc2_call *call, struct mc2_reply *reply) {
     return (void)caller, (void)call, (void)reply, answer(&none, MC2_DONE);
 }
 
@@ -129,7 +129,7 @@ int main(void) {
     struct mc2_replies replies;
     struct mc2_logged_step step;
     to_acquire = to_release = to_call = to_batch = 2;
-    must(mc2_cell_open_bare(&cell, &object, 1) == MC2_DONE, "a cell");
+    must(mc2_cell_open(&cell, &object, NULL, 1) == MC2_DONE, "a cell");
     made(2, true, "opening a cell is two calls");
     must(mc2_caller_open(&cell, &caller) == MC2_DONE, "a caller");
     made(2, true, "opening a caller is two calls");
@@ -148,7 +148,7 @@ int main(void) {
     made(2, false, "the try, a step to release");
     must(!mc2_cell_read_step(&cell, 0, 0, &step), "reading the log");
     made(1, false, "it is a call");
-    must(!mc2_cell_drop_log(&cell) && !mc2_cell_reopen(&cell, 0, 1), "dropping the log, and reopening");
+    must(!mc2_cell_drop_log(&cell) && !mc2_cell_reopen(&cell, 0, NULL, 1), "dropping the log, and reopening");
     made(2, true, "each is a call");
     mc2_cell_free(&cell, &caller, 1);
     made(2, true, "each freeing is a call");
