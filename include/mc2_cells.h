@@ -45,8 +45,7 @@
 //   - MC2_NO_MEMORY occurs only if memory was refused; opening writes the memory of a log; a cell without a log allocates none for
 //     it; dropping a log frees it;
 //   - a try returns MC2_BUSY only if another caller holds the lock or is in line for it;
-//   - the reference count by which callers share a cell refuses to open a caller, or to close the cell, only for the reasons in
-//     mc2_cells_raw.h;
+//   - the reference count by which callers share a cell refuses to open a caller or close the cell only as mc2_cells_raw.h says;
 //   - the structs here, and the numbers of mc2_objects.h and mc2_result.h, are the library's (crates/cell_callers/specs/Cod*.antt).
 //
 // CONTEXT
@@ -56,9 +55,8 @@
 //
 // MEMORY ORDERING
 //
-//   Every atomic operation of the library is sequentially consistent. We know from reading the code, not from a contract:
-//   everything that a caller did before it released the lock happens before everything that the next holder does after it
-//   acquired the lock.
+//   Every atomic operation of the library is sequentially consistent. We know from reading the code, not from a contract: all that
+//   a caller did before it released the lock happens before all that the next holder does after it acquired the lock.
 //
 // LOG
 //
@@ -259,25 +257,15 @@ static inline uint32_t mc2_priv_call_release(struct mc2_caller *caller, uint32_t
     return result == MC2_DONE_HELD ? MC2_DONE : MC2_LOG_FULL;
 }
 
-// Internal: the rest of a call that isn't done at once: waits in line, and releases the lock. The call is passed by value, so that
-// the fast path needn't store it.
+// Internal: the rest of a call that isn't done at once, or of a batch if that isn't NULL: waits in line, and releases the lock. The
+// call is passed by value, so that the fast path needn't store it.
 MC2_PRIV_COLD uint32_t mc2_priv_call_slow(struct mc2_caller *caller, struct mc2_call call, struct mc2_reply *reply,
-                                          uint32_t result) {
+                                          const struct mc2_batch *batch, struct mc2_replies *replies, uint32_t result) {
     uint64_t failed = 0;
     while (result == MC2_AGAIN) {
         mc2_backoff(caller->waiters, ++failed);
-        result = MC2_IRQ_OFF(mc2_poll_call(caller, &call, reply, &caller->looks));
-    }
-    mc2_backoff_end(caller->waiters, failed);
-    return mc2_priv_call_release(caller, result);
-}
-
-MC2_PRIV_COLD uint32_t mc2_priv_batch_slow(struct mc2_caller *caller, const struct mc2_batch *batch, struct mc2_replies *replies,
-                                           uint32_t result) {
-    uint64_t failed = 0;
-    while (result == MC2_AGAIN) {
-        mc2_backoff(caller->waiters, ++failed);
-        result = MC2_IRQ_OFF(mc2_poll_batch(caller, batch, replies, &caller->looks));
+        result = batch ? MC2_IRQ_OFF(mc2_poll_batch(caller, batch, replies, &caller->looks))
+                       : MC2_IRQ_OFF(mc2_poll_call(caller, &call, reply, &caller->looks));
     }
     mc2_backoff_end(caller->waiters, failed);
     return mc2_priv_call_release(caller, result);
@@ -314,13 +302,14 @@ static inline uint32_t mc2_priv_poll(struct mc2_caller *caller, struct mc2_call 
 }
 
 // Internal: ends a call whose first attempt had this result.
-static inline uint32_t mc2_priv_end(struct mc2_caller *caller, struct mc2_call call, struct mc2_reply *reply, uint32_t result) {
-    return result == MC2_DONE ? result : mc2_priv_call_slow(caller, call, reply, result);
+static inline uint32_t mc2_priv_end(struct mc2_caller *caller, uint32_t word, uint32_t first, uint32_t second,
+                                    struct mc2_reply *reply, uint32_t result) {
+    return result == MC2_DONE ? result : mc2_priv_call_slow(caller, mc2_call_of(word, first, second), reply, NULL, NULL, result);
 }
 
 // Internal: a whole call by its name; `poll` is its first attempt, by the function of that name.
 #define MC2_PRIV_CALL(caller, word, first, second, reply, poll) \
-    (mc2_priv_begin(caller), mc2_priv_end(caller, mc2_call_of(word, first, second), reply, MC2_IRQ_OFF(poll)))
+    (mc2_priv_begin(caller), mc2_priv_end(caller, word, first, second, reply, MC2_IRQ_OFF(poll)))
 
 // Performs one call: acquires the lock, performs the call as one event of the log, releases the lock. Arguments as mc2_apply.
 // Returns  MC2_DONE; MC2_LOG_FULL, MC2_NOT_FOUND (no such call): nothing was done; MC2_REFUSED: the caller holds the lock.
@@ -339,7 +328,7 @@ static inline uint32_t mc2_cell_call(struct mc2_caller *caller, const struct mc2
 static inline uint32_t mc2_cell_batch(struct mc2_caller *caller, const struct mc2_batch *batch, struct mc2_replies *replies) {
     mc2_priv_begin(caller);
     uint32_t result = MC2_IRQ_OFF(mc2_poll_batch(caller, batch, replies, &caller->looks));
-    return result == MC2_DONE ? result : mc2_priv_batch_slow(caller, batch, replies, result);
+    return result == MC2_DONE ? result : mc2_priv_call_slow(caller, mc2_call_of(0, 0, 0), NULL, batch, replies, result);
 }
 
 // Performs one call if no one holds the lock or is in line for it.
