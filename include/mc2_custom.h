@@ -45,7 +45,6 @@
 #define MC2_CUSTOM_H
 
 #include "mc2_judge.h"
-#include <stdbool.h>
 
 #ifdef __cplusplus
 extern "C" {

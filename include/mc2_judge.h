@@ -35,12 +35,7 @@
 #ifndef MC2_JUDGE_H
 #define MC2_JUDGE_H
 
-#ifdef MC2_TYPES
-#include MC2_TYPES
-#else
-#include <stddef.h>
-#include <stdint.h>
-#endif
+#include "mc2_result.h"
 
 #ifdef __cplusplus
 extern "C" {

@@ -4,15 +4,6 @@
 
 #include "mc2_result.h"
 
-// A kernel whose types come from a header of its own, as in Linux, defines MC2_TYPES as that header's name, in quotes.
-#ifdef MC2_TYPES
-#include MC2_TYPES
-#else
-#include <stdbool.h>
-#include <stddef.h>
-#include <stdint.h>
-#endif
-
 // The limits of objects and of records. tests/c/records compares them with the definitions that the proofs use.
 enum { MC2_OWNERS = 16, MC2_MOST_CPUS = 64, MC2_MOST_OBJECTS = 16, MC2_MOST_NAME = 16, MC2_MOST_EVENTS = 65536, MC2_MOST_CALLS = 8,
        MC2_MOST_ENTRIES = 10000, MC2_MOST_THREADS = 1024, MC2_MOST_CHANNELS = 64, MC2_MOST_PAGES = 4096, MC2_MOST_BYTES = 4096 };

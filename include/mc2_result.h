@@ -1,7 +1,16 @@
 // mc2_result.h - the results of the functions of mc2 headers: 0 for success, and a positive number otherwise. mc2_judge.h and
-// mc2_custom.h return verdicts instead.
+// mc2_custom.h return verdicts instead. All headers take their types from here.
 #ifndef MC2_RESULT_H
 #define MC2_RESULT_H
+
+// A kernel whose types come from a header of its own, as in Linux, defines MC2_TYPES as that header's name, in quotes.
+#ifdef MC2_TYPES
+#include MC2_TYPES
+#else
+#include <stdbool.h>
+#include <stddef.h>
+#include <stdint.h>
+#endif
 
 enum mc2_result {
     MC2_DONE = 0, // success
