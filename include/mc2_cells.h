@@ -15,8 +15,7 @@
 // All functions return 0 (MC2_DONE) for success. examples/c_cells/hello.c is a whole program.
 //
 // `tools/develop/library cells --unproved` compiles the library in a minute or two, to .unproved/libcells.a. Without the last word
-// it proves the library, to crates/cells/out/libcells.a. Link either with the heap of the Rattle kit, which uses malloc and free;
-// KIT is the kit's folder:
+// it proves the library, to crates/cells/out/libcells.a. Link either with the heap of the Rattle kit in KIT (malloc and free):
 //
 //     gcc -Iinclude program.c .unproved/libcells.a KIT/c/liblibc_c.a -pthread
 //
@@ -42,21 +41,22 @@
 //
 //   The library (mc2_cells_raw.h), by the contracts of crates/cells/README.md. None of its functions waits. The inline functions
 //   of this header are the wait loops around them; nothing is proved of these. No contract says the following, so you trust it:
-//   - mc2_handle_alloc stores a valid empty handle, and mc2_handle_free frees everything that a handle has, and leaves a caller
-//     that it refuses unchanged;
+//   - mc2_handle_alloc stores a valid empty handle; mc2_handle_free frees all that a handle has, or leaves a caller unchanged;
 //   - MC2_NO_MEMORY occurs only if memory was refused; opening writes the memory of a log; a cell without a log allocates none for
 //     it; dropping a log frees it;
 //   - a try returns MC2_BUSY only if another caller holds the lock or is in line for it;
-//   - the reference count by which callers share a cell refuses to open a caller, or to close the cell, only for the reasons in
-//     mc2_cells_raw.h;
-//   - the structs here, and the numbers of mc2_objects.h and mc2_result.h, are the library's (Coding.antt and CodeNumbers.antt in
-//     crates/cell_callers/specs).
+//   - the reference count by which callers share a cell refuses to open a caller or close the cell only as mc2_cells_raw.h says;
+//   - the structs here, and the numbers of mc2_objects.h and mc2_result.h, are the library's (crates/cell_callers/specs/Cod*.antt).
+//
+// CONTEXT
+//
+//   The functions that open, close, reopen and free, and that drop a log, use the heap. An interrupt handler uses a cell only
+//   by mc2_try_acquire, mc2_apply, mc2_release and mc2_cell_try_call, with a caller of its own. A function that may wait says so.
 //
 // MEMORY ORDERING
 //
-//   Every atomic operation of the library is sequentially consistent. We know from reading the code, not from a contract:
-//   everything that a caller did before it released the lock happens before everything that the next holder does after it
-//   acquired the lock.
+//   Every atomic operation of the library is sequentially consistent. We know from reading the code, not from a contract: all that
+//   a caller did before it released the lock happens before all that the next holder does after it acquired the lock.
 //
 // LOG
 //
@@ -69,8 +69,7 @@
 // FREESTANDING
 //
 //   Compile with -ffreestanding, and link only libcells.a. The kernel provides memcpy, memmove, memset, rattle_alloc and
-//   rattle_dealloc; mc2_heap.h provides the last two. docs/IN_A_KERNEL.md says what each must do, and how much memory and
-//   stack the library needs.
+//   rattle_dealloc; mc2_heap.h has the last two. docs/IN_A_KERNEL.md has what each must do, and the library's memory and stack.
 #ifndef MC2_CELLS_H
 #define MC2_CELLS_H
 
@@ -89,8 +88,6 @@
 #define MC2_ALLOCATING(call) MC2_IRQ_OFF(call)
 #endif
 
-#include "mc2_by_name.h"
-
 // ---- Callers one by one, for CPUs added later. Most programs use mc2_cell_open and mc2_cell_close, which handle all callers.
 
 // Internal: allocates a caller of no CPU yet.
@@ -104,7 +101,6 @@ static inline uint32_t mc2_priv_caller_alloc(struct mc2_cell *cell, struct mc2_c
 // Abandons an idle caller: frees it without returning it to its cell. Its CPU has no caller any more, and the cell can't be closed.
 // mc2_caller_close returns a caller and frees it. Does nothing if the caller is closed or freed.
 // Returns  MC2_DONE; MC2_REFUSED: the caller is in line or holds the lock.
-// Context  Uses the heap. Not in an interrupt handler.
 static inline uint32_t mc2_caller_free(struct mc2_caller *caller) {
     struct mc2_handle handle = {caller->impl};
     uint32_t result = caller->impl ? MC2_ALLOCATING(mc2_handle_free(handle)) : (uint32_t)MC2_DONE;
@@ -114,14 +110,11 @@ static inline uint32_t mc2_caller_free(struct mc2_caller *caller) {
 }
 
 // Creates the caller of the highest CPU number that has none: for (cpu = cpus; cpu-- > 0;) mc2_caller_open(&cell, &callers[cpu]);
-// Returns  MC2_DONE; MC2_REFUSED: every CPU has a caller, or the cell isn't open; MC2_NO_MEMORY. After an error there is nothing to
-//          free.
-// Context  Uses the heap. Not in an interrupt handler.
+// Returns  MC2_DONE; MC2_REFUSED: every CPU has a caller, or the cell isn't open; MC2_NO_MEMORY. An error leaves nothing to free.
 static inline uint32_t mc2_caller_open(struct mc2_cell *cell, struct mc2_caller *caller) {
     uint32_t result = mc2_priv_caller_alloc(cell, caller);
-    if (result != MC2_DONE)
-        return result;
-    result = MC2_ALLOCATING(mc2_handle_open_caller(cell, caller));
+    if (result == MC2_DONE)
+        result = MC2_ALLOCATING(mc2_handle_open_caller(cell, caller));
     if (result != MC2_DONE)
         mc2_caller_free(caller);
     return result;
@@ -129,7 +122,6 @@ static inline uint32_t mc2_caller_open(struct mc2_cell *cell, struct mc2_caller 
 
 // Returns an idle caller to its cell and frees it. Does nothing if the caller is closed or freed.
 // Returns  MC2_DONE; MC2_REFUSED: the caller isn't idle, a caller of a lower CPU is still open, or the cell isn't open.
-// Context  Uses the heap. Not in an interrupt handler.
 static inline uint32_t mc2_caller_close(struct mc2_cell *cell, struct mc2_caller *caller) {
     if (!caller->impl)
         return MC2_DONE;
@@ -148,7 +140,6 @@ static inline void mc2_priv_callers_free(struct mc2_caller *callers, uint32_t co
 // Frees a cell, open or closed, and those of `callers` that are idle. Other callers still work: free each with mc2_caller_free once
 // it is idle. A cell or caller that is freed already is skipped.
 //   count    the number of callers in `callers`, which may be NULL if it is 0
-// Context  Uses the heap. Not in an interrupt handler.
 static inline void mc2_cell_free(struct mc2_cell *cell, struct mc2_caller *callers, uint32_t count) {
     struct mc2_handle handle = {cell->impl};
     mc2_priv_callers_free(callers, count);
@@ -165,9 +156,8 @@ static inline uint32_t mc2_priv_cell_open(struct mc2_cell *cell, const struct mc
     cell->impl = NULL;
     cell->waiters.word = 0;
     uint32_t result = MC2_ALLOCATING(mc2_handle_alloc(&cell->impl));
-    if (result != MC2_DONE)
-        return result;
-    result = MC2_ALLOCATING(mc2_handle_open_cell(cell, &opening));
+    if (result == MC2_DONE)
+        result = MC2_ALLOCATING(mc2_handle_open_cell(cell, &opening));
     if (result != MC2_DONE)
         mc2_cell_free(cell, NULL, 0);
     return result;
@@ -178,7 +168,6 @@ static inline uint32_t mc2_priv_cell_open(struct mc2_cell *cell, const struct mc
 //   callers  room for `cpus` callers; NULL: none is opened, mc2_caller_open creates them
 //   cpus     1 to 64
 // Returns  MC2_DONE; MC2_BAD_PARAM: an argument is out of range; MC2_NO_MEMORY. After an error there is nothing to free.
-// Context  Uses the heap. Not in an interrupt handler.
 static inline uint32_t mc2_cell_open(struct mc2_cell *cell, const struct mc2_object *object, struct mc2_caller *callers,
                                      uint32_t cpus) {
     uint32_t result = mc2_priv_cell_open(cell, object, cpus), first = cpus;
@@ -196,7 +185,6 @@ static inline uint32_t mc2_cell_open(struct mc2_cell *cell, const struct mc2_obj
 //   callers  the cell's callers, in ascending order of CPU. Those that are closed already may be left out; NULL if `count` is 0
 // Returns  MC2_DONE; MC2_REFUSED: a caller isn't idle or is left out, or the cell isn't open. The first caller that isn't idle and
 //          those after it are unchanged: call again later, with the same array.
-// Context  Uses the heap. Not in an interrupt handler.
 static inline uint32_t mc2_cell_close(struct mc2_cell *cell, struct mc2_caller *callers, uint32_t count) {
     uint32_t result = cell->impl ? MC2_DONE : MC2_REFUSED;
     for (uint32_t at = 0; at < count && result == MC2_DONE; at++)
@@ -208,7 +196,7 @@ static inline uint32_t mc2_cell_close(struct mc2_cell *cell, struct mc2_caller *
 
 // Acquires the cell's lock, waiting in FIFO order.
 // Returns  MC2_DONE; MC2_REFUSED: the caller already holds the lock.
-// Context  Blocks: spins by MC2_PAUSE, and sleeps by MC2_USLEEP if there is one (mc2_wait.h). Not in an interrupt handler.
+// Context  Blocks: spins by MC2_PAUSE, and sleeps by MC2_USLEEP if there is one (mc2_wait.h).
 // Ordering Acquire: sees everything that earlier holders did before they released the lock.
 static inline uint32_t mc2_acquire(struct mc2_caller *caller) {
     uint64_t failed = 0;
@@ -227,7 +215,6 @@ static inline uint32_t mc2_acquire(struct mc2_caller *caller) {
 
 // Acquires the lock if no one holds it or is in line for it.
 // Returns  MC2_DONE; MC2_BUSY: nothing was done; MC2_REFUSED: the caller isn't idle.
-// Context  Doesn't wait. Interrupt handlers may call it, with a caller of their own.
 // Ordering Acquire, on MC2_DONE.
 static inline uint32_t mc2_try_acquire(struct mc2_caller *caller) {
     uint32_t result = MC2_IRQ_OFF(mc2_poll_try_acquire(caller));
@@ -238,15 +225,13 @@ static inline uint32_t mc2_try_acquire(struct mc2_caller *caller) {
 //   call     a call of the object's kind; a call of another kind is an event with the reply MC2_BADCALL
 //   reply    out, on MC2_DONE
 // Returns  MC2_DONE; MC2_LOG_FULL, MC2_NOT_FOUND (no such call): nothing was done; MC2_REFUSED: the caller doesn't hold the lock.
-// Context  Doesn't wait. Interrupt handlers may call it, with a caller of their own.
 static inline uint32_t mc2_apply(struct mc2_caller *caller, const struct mc2_call *call, struct mc2_reply *reply) {
     return MC2_IRQ_OFF(mc2_handle_apply(caller, call, reply));
 }
 
 // Releases the lock.
 // Returns  MC2_DONE; MC2_REFUSED: the caller doesn't hold the lock.
-// Context  A ticket lock doesn't wait. An MCS lock waits, as mc2_acquire does, if a successor has entered the queue but hasn't
-//          linked itself yet. Interrupt handlers may call it, with a caller of their own.
+// Context  A ticket lock doesn't wait. An MCS lock waits as mc2_acquire does if a successor is in the queue and isn't linked yet.
 // Ordering Release: the next holder sees everything that was done before.
 static inline uint32_t mc2_release(struct mc2_caller *caller) {
     for (uint64_t failed = 0;;) {
@@ -272,57 +257,83 @@ static inline uint32_t mc2_priv_call_release(struct mc2_caller *caller, uint32_t
     return result == MC2_DONE_HELD ? MC2_DONE : MC2_LOG_FULL;
 }
 
-// Internal: the rest of a call that isn't done at once: waits in line, and releases the lock. The call is passed by value, so that
-// the fast path needn't store it.
+// Internal: the rest of a call that isn't done at once, or of a batch if that isn't NULL: waits in line, and releases the lock. The
+// call is passed by value, so that the fast path needn't store it.
 MC2_PRIV_COLD uint32_t mc2_priv_call_slow(struct mc2_caller *caller, struct mc2_call call, struct mc2_reply *reply,
-                                          uint32_t result) {
+                                          const struct mc2_batch *batch, struct mc2_replies *replies, uint32_t result) {
     uint64_t failed = 0;
     while (result == MC2_AGAIN) {
         mc2_backoff(caller->waiters, ++failed);
-        result = MC2_IRQ_OFF(mc2_poll_call(caller, &call, reply, &caller->looks));
+        result = batch ? MC2_IRQ_OFF(mc2_poll_batch(caller, batch, replies, &caller->looks))
+                       : MC2_IRQ_OFF(mc2_poll_call(caller, &call, reply, &caller->looks));
     }
     mc2_backoff_end(caller->waiters, failed);
     return mc2_priv_call_release(caller, result);
 }
 
-MC2_PRIV_COLD uint32_t mc2_priv_batch_slow(struct mc2_caller *caller, const struct mc2_batch *batch, struct mc2_replies *replies,
-                                           uint32_t result) {
-    uint64_t failed = 0;
-    while (result == MC2_AGAIN) {
-        mc2_backoff(caller->waiters, ++failed);
-        result = MC2_IRQ_OFF(mc2_poll_batch(caller, batch, replies, &caller->looks));
-    }
-    mc2_backoff_end(caller->waiters, failed);
-    return mc2_priv_call_release(caller, result);
+// Internal: begins a call that may wait.
+static inline void mc2_priv_begin(struct mc2_caller *caller) {
+    caller->looks = 0;
+    mc2_throttle(caller->waiters);
 }
+
+// Internal: a whole call without waiting, by the function of its name.
+static inline uint32_t mc2_priv_poll(struct mc2_caller *caller, struct mc2_call call, struct mc2_reply *reply, uint64_t *looks) {
+    switch (call.word) {
+    case MC2_ENQ: return mc2_poll_enq(caller, call.first, reply, looks);
+    case MC2_DEQ: return mc2_poll_deq(caller, reply, looks);
+    case MC2_REMOVE: return mc2_poll_remove(caller, call.first, reply, looks);
+    case MC2_LEN: return mc2_poll_len(caller, reply, looks);
+    case MC2_ALLOC: return mc2_poll_alloc(caller, call.first, reply, looks);
+    case MC2_FREE: return mc2_poll_free(caller, call.first, call.second, reply, looks);
+    case MC2_LEFT: return mc2_poll_left(caller, reply, looks);
+    case MC2_GET: return mc2_poll_get(caller, reply, looks);
+    case MC2_LEVEL: return mc2_poll_level(caller, reply, looks);
+    case MC2_READY: return mc2_poll_ready(caller, call.first, reply, looks);
+    case MC2_NEXT: return mc2_poll_next(caller, reply, looks);
+    case MC2_SLEEP: return mc2_poll_sleep(caller, call.first, call.second, reply, looks);
+    case MC2_WAKE: return mc2_poll_wake(caller, call.first, reply, looks);
+    case MC2_WAKEALL: return mc2_poll_wakeall(caller, call.first, reply, looks);
+    // by its number: a call that doesn't exist, such as one of a byte above 255
+    default:
+        return call.word == MC2_PUT && call.first <= 255 ? mc2_poll_put(caller, (uint8_t)call.first, reply, looks)
+                                                         : mc2_poll_call(caller, &call, reply, looks);
+    }
+}
+
+// Internal: ends a call whose first attempt had this result.
+static inline uint32_t mc2_priv_end(struct mc2_caller *caller, uint32_t word, uint32_t first, uint32_t second,
+                                    struct mc2_reply *reply, uint32_t result) {
+    return result == MC2_DONE ? result : mc2_priv_call_slow(caller, mc2_call_of(word, first, second), reply, NULL, NULL, result);
+}
+
+// Internal: a whole call by its name; `poll` is its first attempt, by the function of that name.
+#define MC2_PRIV_CALL(caller, word, first, second, reply, poll) \
+    (mc2_priv_begin(caller), mc2_priv_end(caller, word, first, second, reply, MC2_IRQ_OFF(poll)))
 
 // Performs one call: acquires the lock, performs the call as one event of the log, releases the lock. Arguments as mc2_apply.
 // Returns  MC2_DONE; MC2_LOG_FULL, MC2_NOT_FOUND (no such call): nothing was done; MC2_REFUSED: the caller holds the lock.
-// Context  Blocks as mc2_acquire. Not in an interrupt handler.
+// Context  Blocks as mc2_acquire.
 // Ordering Acquire, then release.
 static inline uint32_t mc2_cell_call(struct mc2_caller *caller, const struct mc2_call *call, struct mc2_reply *reply) {
     struct mc2_call asked = *call;
-    uint64_t *looks = mc2_priv_begin(caller);
-    uint32_t result = MC2_IRQ_OFF(mc2_priv_poll(caller, asked, reply, looks));
-    return mc2_priv_end(caller, asked.word, asked.first, asked.second, reply, result);
+    return MC2_PRIV_CALL(caller, asked.word, asked.first, asked.second, reply,
+                         mc2_priv_poll(caller, asked, reply, &caller->looks));
 }
 
 // Performs 1 to 8 calls in order as one event, which ends with the first call whose reply refuses it.
 //   replies  out, on MC2_DONE: one for each call that was performed; those past the count are unspecified
-// Returns  as mc2_cell_call; MC2_REFUSED also for 0 or more than 8 calls; MC2_NOT_FOUND: one call doesn't exist, and none was
-//          performed.
-// Context  as mc2_cell_call
-// Ordering as mc2_cell_call
+// Returns  as mc2_cell_call; MC2_REFUSED also for 0 or more than 8 calls; MC2_NOT_FOUND: a call doesn't exist; none was performed.
+// Context  and ordering as mc2_cell_call.
 static inline uint32_t mc2_cell_batch(struct mc2_caller *caller, const struct mc2_batch *batch, struct mc2_replies *replies) {
-    uint64_t *looks = mc2_priv_begin(caller);
-    uint32_t result = MC2_IRQ_OFF(mc2_poll_batch(caller, batch, replies, looks));
-    return result == MC2_DONE ? result : mc2_priv_batch_slow(caller, batch, replies, result);
+    mc2_priv_begin(caller);
+    uint32_t result = MC2_IRQ_OFF(mc2_poll_batch(caller, batch, replies, &caller->looks));
+    return result == MC2_DONE ? result : mc2_priv_call_slow(caller, mc2_call_of(0, 0, 0), NULL, batch, replies, result);
 }
 
 // Performs one call if no one holds the lock or is in line for it.
 // Returns  as mc2_cell_call; MC2_BUSY: nothing was done; MC2_REFUSED: the caller isn't idle.
-// Context  Doesn't wait for the lock. Releasing an MCS lock may wait as mc2_release does. Interrupt handlers may call it, with a
-//          caller of their own.
+// Context  Doesn't wait for the lock. Releasing an MCS lock may wait as mc2_release does.
 // Ordering as mc2_cell_call, on MC2_DONE.
 static inline uint32_t mc2_cell_try_call(struct mc2_caller *caller, const struct mc2_call *call, struct mc2_reply *reply) {
     return mc2_priv_call_release(caller, MC2_IRQ_OFF(mc2_poll_try_call(caller, call, reply)));
@@ -338,14 +349,12 @@ static inline uint64_t mc2_caller_looks(const struct mc2_caller *caller) { retur
 //   event, index   the event, and the step in it, both from 0; an event has one step for each of its 1 to 8 calls
 //   step           out, on MC2_DONE
 // Returns  MC2_DONE; MC2_NOT_FOUND: there is no such step, the cell isn't closed, or its log isn't kept.
-// Context  Doesn't wait. Not in an interrupt handler.
 static inline uint32_t mc2_cell_read_step(struct mc2_cell *cell, size_t event, size_t index, struct mc2_logged_step *step) {
     return cell->impl ? MC2_IRQ_OFF(mc2_handle_read_step(cell, event, index, step)) : (uint32_t)MC2_NOT_FOUND;
 }
 
 // Frees the log of a closed cell. From then on its log isn't kept: it can't be read, and has room for 2^64 - 1 events.
 // Returns  MC2_DONE; MC2_REFUSED: the cell isn't closed.
-// Context  Uses the heap. Not in an interrupt handler.
 static inline uint32_t mc2_cell_drop_log(struct mc2_cell *cell) {
     return cell->impl ? MC2_ALLOCATING(mc2_handle_drop_log(cell)) : (uint32_t)MC2_REFUSED;
 }
@@ -354,9 +363,7 @@ static inline uint32_t mc2_cell_drop_log(struct mc2_cell *cell) {
 // numbers, and have the room that was left.
 //   lock     enum mc2_lock_kind; it may differ from before
 //   callers, cpus   as mc2_cell_open
-// Returns  MC2_DONE; MC2_REFUSED: the cell isn't closed; MC2_BAD_PARAM, MC2_NO_MEMORY. After an error the cell and `callers` are
-//          unchanged.
-// Context  Uses the heap. Not in an interrupt handler.
+// Returns  MC2_DONE; MC2_REFUSED: the cell isn't closed; MC2_BAD_PARAM, MC2_NO_MEMORY. An error changes neither cell nor callers.
 static inline uint32_t mc2_cell_reopen(struct mc2_cell *cell, uint32_t lock, struct mc2_caller *callers, uint32_t cpus) {
     struct mc2_caller opened[MC2_MOST_CPUS];
     uint32_t wanted = callers && cpus <= MC2_MOST_CPUS ? cpus : 0, at = 0;
@@ -373,5 +380,7 @@ static inline uint32_t mc2_cell_reopen(struct mc2_cell *cell, uint32_t lock, str
     }
     return result;
 }
+
+#include "mc2_by_name.h"
 
 #endif

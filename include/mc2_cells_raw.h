@@ -4,7 +4,7 @@
 // caller obligations of mc2_cells.h apply.
 //
 // Common to all of them:
-//   Returns   MC2_REFUSED if the handle isn't in a state that the function needs. A refused call changes nothing.
+//   Returns   MC2_REFUSED if the handle isn't of the sort or in the state that the function needs. A refused call changes nothing.
 //   Context   Non-blocking: none waits for another CPU. Those marked [heap] call rattle_alloc or rattle_dealloc. An interrupt
 //             handler may call only mc2_poll_try_acquire, mc2_poll_try_call, mc2_handle_apply and mc2_release_step, by a caller of
 //             a CPU number of its own, and not if it came within another call of this header. So where handlers call objects,
@@ -48,8 +48,7 @@ struct mc2_cell_opening {
 
 // ---- Handles
 
-// Allocates an empty handle and stores it in *impl. [heap]
-// Free it once with mc2_handle_free, whatever later calls return.
+// Allocates an empty handle and stores it in *impl. Free it once with mc2_handle_free, whatever later calls return. [heap]
 // Returns  MC2_DONE; MC2_NO_MEMORY: *impl is unchanged and there is nothing to free.
 uint32_t mc2_handle_alloc(void **impl);
 
@@ -59,18 +58,16 @@ uint32_t mc2_handle_alloc(void **impl);
 uint32_t mc2_handle_free(struct mc2_handle handle);
 
 // Opens a cell in an empty handle. [heap]
-// Returns  MC2_DONE; MC2_REFUSED: the handle isn't empty; MC2_NO_MEMORY, MC2_BAD_PARAM: the handle is still empty, and can be
-//          used again or freed.
+// Returns  MC2_DONE; MC2_REFUSED: the handle isn't empty; MC2_NO_MEMORY, MC2_BAD_PARAM: it still is: use it again or free it.
 uint32_t mc2_handle_open_cell(struct mc2_cell *cell, const struct mc2_cell_opening *opening);
 
 // Creates, in the empty handle `caller`, the caller of the highest CPU number that has none.
-// Returns  MC2_DONE; MC2_REFUSED: the cell isn't open, each of its CPUs has a caller, or `caller` isn't empty; MC2_NO_MEMORY:
-//          2^63 callers share the cell.
+// Returns  MC2_DONE; MC2_REFUSED: the cell isn't open, each of its CPUs has a caller, or `caller` isn't empty; MC2_NO_MEMORY: the
+//          cell is shared by 2^63 callers.
 uint32_t mc2_handle_open_caller(struct mc2_cell *cell, struct mc2_caller *caller);
 
-// Returns an idle caller to its cell; the caller's handle is then empty.
+// Returns an idle caller to its cell; the caller's handle is then empty. That it is the caller's own cell isn't checked.
 // Callers go back in ascending order of CPU, which is the reverse of the order in which they were created.
-// The cell must be the caller's own: this isn't checked.
 // Returns  MC2_DONE; MC2_REFUSED: the cell isn't open, the caller isn't idle, or a caller of a lower CPU is still out.
 uint32_t mc2_handle_return_caller(struct mc2_cell *cell, struct mc2_caller *caller);
 
@@ -78,13 +75,9 @@ uint32_t mc2_handle_return_caller(struct mc2_cell *cell, struct mc2_caller *call
 // Returns  MC2_DONE; MC2_REFUSED: the cell isn't open, or a caller is still out; MC2_BUSY, see mc2_result.h.
 uint32_t mc2_handle_close_cell(struct mc2_cell *cell);
 
-// Reads one step of the log of a closed cell, as mc2_cell_read_step.
+// As mc2_cell_read_step, mc2_cell_reopen [heap] without callers, and mc2_cell_drop_log [heap], all without MC2_IRQ_OFF.
 uint32_t mc2_handle_read_step(struct mc2_cell *cell, size_t event, size_t index, struct mc2_logged_step *step);
-
-// Reopens a closed cell on its object, as mc2_cell_reopen. [heap]
 uint32_t mc2_handle_reopen_cell(struct mc2_cell *cell, uint32_t lock, uint32_t cpus);
-
-// Frees the log of a closed cell, as mc2_cell_drop_log. [heap]
 uint32_t mc2_handle_drop_log(struct mc2_cell *cell);
 
 // ---- The lock, one step at a time
@@ -100,20 +93,17 @@ uint32_t mc2_acquire_step(struct mc2_caller *caller);
 //          it doesn't hold the lock, or isn't a caller.
 uint32_t mc2_release_step(struct mc2_caller *caller);
 
-// Acquires the lock if no one holds it or is in line. Looks at it once at most.
-// Returns  MC2_ACQUIRED_BY_LOOK; MC2_BUSY: nothing was changed; MC2_REFUSED: the caller isn't idle, or isn't a caller.
+// As mc2_try_acquire, without MC2_IRQ_OFF, but returns MC2_ACQUIRED_BY_LOOK in place of MC2_DONE. Looks at the lock once at most.
 uint32_t mc2_poll_try_acquire(struct mc2_caller *caller);
 
-// Performs one call as one event of the log. The caller must hold the lock.
-// Returns  MC2_DONE: *reply is written; MC2_LOG_FULL, MC2_NOT_FOUND: nothing was done; MC2_REFUSED: it doesn't hold the lock.
+// As mc2_apply, without MC2_IRQ_OFF.
 uint32_t mc2_handle_apply(struct mc2_caller *caller, const struct mc2_call *call, struct mc2_reply *reply);
 
 // ---- Whole calls, without waiting
 
 // Acquires the lock, performs the call as one event, and releases the lock, as far as this needs no waiting. It looks at the lock
 // once at most. Each look adds 1 to *looks.
-// Returns  MC2_DONE: *reply is written, and the caller is idle.
-//          MC2_LOG_FULL: the call wasn't performed, and the caller is idle.
+// Returns  MC2_DONE: *reply is written, and the caller is idle; MC2_LOG_FULL: nothing was done, and the caller is idle.
 //          MC2_AGAIN: the caller is in line, and the object is untouched. Pause, then call again.
 //          MC2_DONE_HELD, MC2_LOG_FULL_HELD: as without HELD, but a successor hasn't linked itself yet, so the lock is still
 //          held. Release it by mc2_release or mc2_release_step.
@@ -122,9 +112,8 @@ uint32_t mc2_handle_apply(struct mc2_caller *caller, const struct mc2_call *call
 uint32_t mc2_poll_call(struct mc2_caller *caller, const struct mc2_call *call, struct mc2_reply *reply, uint64_t *looks);
 
 // The same for 1 to 8 calls, performed in order as one event. The event ends with the first call whose reply refuses it.
-// Returns  as mc2_poll_call, and MC2_REFUSED for 0 or more than 8 calls. MC2_NOT_FOUND: one of the calls doesn't exist, and none
-//          was performed. The replies and their count are written if the event was performed; replies past the count are
-//          unspecified.
+// Returns  as mc2_poll_call, and MC2_REFUSED for 0 or more than 8 calls. MC2_NOT_FOUND: a call doesn't exist; none was performed.
+//          The replies and their count are written if the event was performed; replies past the count are unspecified.
 uint32_t mc2_poll_batch(struct mc2_caller *caller, const struct mc2_batch *batch, struct mc2_replies *replies, uint64_t *looks);
 
 // As mc2_poll_call, but never joins the line.

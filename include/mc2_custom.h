@@ -3,8 +3,7 @@
 //
 // The library knows what a record is, and which CPU did what, in which order. It doesn't know your objects. For each kind of them
 // you write a *model* (struct mc2_model), which says of each step whether it is right. mc2_custom_judge asks the models about each
-// log, from its first step on, and hands the library one number for each object: how many steps are right. The library never
-// calls a model.
+// log, from its first step on, and passes on one number per object: how many steps are right. The library never calls a model.
 //
 //     struct mc2_model models[] = {{"counter", open_counter, step_counter, close_counter, NULL}};
 //     static struct mc2_custom_logs logs;
@@ -17,10 +16,8 @@
 //   1. `text` points to `length` bytes, `right` to `objects` numbers, `models` to `count` models, `order` to `capacity` places, and
 //      each other pointer to one struct. During the call no other thread writes `text`, `right` and `models`, or touches the rest.
 //   2. None of them overlaps another: no byte of one is a byte of another.
-//   3. No pointer is NULL, even if its size is 0, unless its comment allows it. All but `text` are aligned to 8 bytes, as C aligns
-//      them.
-//   4. All that a pointer points to has at most PTRDIFF_MAX bytes, as every array in C. The bytes `at`, `object` and `log` of the
-//      text may be any numbers.
+//   3. No pointer is NULL, even if its size is 0, unless its comment allows it. All but `text` are aligned to 8 bytes, as in C.
+//   4. All that a pointer points to has at most PTRDIFF_MAX bytes, as each array in C. `at`, `object` and `log` may be any numbers.
 //   5. A model keeps to what struct mc2_model says.
 //
 // WHAT IS PROVED
@@ -40,8 +37,7 @@
 //   Any number of threads may call the functions at the same time, if the models allow it: nothing is kept between two calls. All
 //   but mc2_custom_line and mc2_custom_is use the heap. Otherwise they don't block, unless a model does.
 //   - Memory, at most: mc2_custom_audit and mc2_custom_merge 4 bytes for each byte of the text, 8 for each count and 1,300,000
-//     more; mc2_custom_kernel 300,000. All of it is freed before the call returns. For large records they took less memory than the
-//     text has bytes.
+//     more; mc2_custom_kernel 300,000. All of it is freed before the call returns. For large records it was less than the text.
 //   - Bytes of stack in the proved library, at most (unproved ones take more):
 //     mc2_custom_audit 12,288, mc2_custom_merge 12,288, mc2_custom_line 6,144, mc2_custom_kernel 7,168.
 //   These figures aren't proved; tests/c/judge checks calls against them.
@@ -49,7 +45,6 @@
 #define MC2_CUSTOM_H
 
 #include "mc2_judge.h"
-#include <stdbool.h>
 
 #ifdef __cplusplus
 extern "C" {
@@ -57,36 +52,23 @@ extern "C" {
 
 // The limits of a record 3: CPUs, objects, calls of an event, numbers after a word, numbers of an object, words that refuse, and
 // letters of a word. A log has at most 4,294,967,295 events, and a transcript as many entries.
-enum {
-    MC2_CUSTOM_CPUS = 256,
-    MC2_CUSTOM_OBJECTS = 256,
-    MC2_CUSTOM_CALLS = 8,
-    MC2_CUSTOM_NUMBERS = 6,
-    MC2_CUSTOM_SIZES = 32,
-    MC2_CUSTOM_REFUSING = 32,
-    MC2_CUSTOM_LETTERS = 16
-};
+enum { MC2_CUSTOM_CPUS = 256, MC2_CUSTOM_OBJECTS = 256, MC2_CUSTOM_CALLS = 8, MC2_CUSTOM_NUMBERS = 6, MC2_CUSTOM_SIZES = 32 };
+enum { MC2_CUSTOM_REFUSING = 32, MC2_CUSTOM_LETTERS = 16 };
 
 // The kinds of reports other than enum mc2_verdict.
 enum {
     // From mc2_custom_judge: the text is a record, but no model has the object's kind, or its model refused the object's numbers or
     // had no memory: the object. From mc2_custom_kernel: no line of an object of mc2's kinds begins there, or no head of a log.
     MC2_NO_MODEL = 12,
-    // From mc2_custom_kernel: the number of right steps.
-    MC2_CUSTOM_COUNTED = 13
+    MC2_CUSTOM_COUNTED = 13 // from mc2_custom_kernel: the number of right steps
 };
 
 enum mc2_custom_line_kind {
-    // No line begins there, or it has no end.
-    MC2_CUSTOM_NONE = 0,
-    // object NAME LOCK EVENTS KIND NUMBERS
-    MC2_CUSTOM_OBJECT = 1,
-    // log NAME K
-    MC2_CUSTOM_LOG = 2,
-    // CPU CALL = REPLY ; CALL = REPLY
-    MC2_CUSTOM_EVENT = 3,
-    // Any other line.
-    MC2_CUSTOM_OTHER = 4
+    MC2_CUSTOM_NONE = 0,   // no line begins there, or it has no end
+    MC2_CUSTOM_OBJECT = 1, // object NAME LOCK EVENTS KIND NUMBERS
+    MC2_CUSTOM_LOG = 2,    // log NAME K
+    MC2_CUSTOM_EVENT = 3,  // CPU CALL = REPLY ; CALL = REPLY
+    MC2_CUSTOM_OTHER = 4   // any other line
 };
 
 // A call or a reply: a word, with zeros after it if it has fewer than 16 letters, and `count` numbers.
@@ -103,29 +85,21 @@ struct mc2_custom_step {
 
 // A line. Each field is written for the kinds of lines that its comment names, and otherwise unchanged.
 struct mc2_custom_line {
-    // Always: one of mc2_custom_line_kind.
-    uint32_t kind;
-    // Event: the CPU.
-    uint32_t cpu;
-    // All kinds but MC2_CUSTOM_NONE: where the next line begins, if there is one.
-    uint64_t next;
-    // Object: EVENTS, the most events of its log. Log: K, the number of lines of events that follow.
-    uint64_t limit;
-    // Object: how many numbers it has. Event: how many steps.
-    uint64_t count;
-    // Object and log: the name, with zeros after it.
-    uint8_t name[16];
-    // Object: the kind, with zeros after it; and the numbers.
-    uint8_t object_kind[16];
-    uint64_t numbers[32];
-    // Event: the steps.
-    struct mc2_custom_step steps[8];
+    uint32_t kind;                   // always: one of mc2_custom_line_kind
+    uint32_t cpu;                    // event: the CPU
+    uint64_t next;                   // all kinds but MC2_CUSTOM_NONE: where the next line begins, if there is one
+    uint64_t limit;                  // object: EVENTS, the most events of its log; log: K, the number of its event lines
+    uint64_t count;                  // object: how many numbers it has; event: how many steps
+    uint8_t name[16];                // object and log: the name, with zeros after it
+    uint8_t object_kind[16];         // object: the kind, with zeros after it
+    uint64_t numbers[32];            // object: its numbers
+    struct mc2_custom_step steps[8]; // event: its steps
 };
 
 // Reads the line that begins at byte `at`. The rest of the text doesn't matter, and needn't be a record.
 void mc2_custom_line(const uint8_t *text, size_t length, size_t at, struct mc2_custom_line *line);
 
-// Counts how many steps of a log, from the first on, are right for an object of the kinds that mc2 has: queue, pool, console, sched.
+// Counts how many steps of a log, from the first on, are right for an object of mc2's kinds: queue, pool, console, sched.
 //   object, log   the bytes where the object's line and the head of its log begin
 // Returns  in `report`: MC2_CUSTOM_COUNTED; MC2_NO_MODEL; MC2_OUT_OF_MEMORY.
 void mc2_custom_kernel(const uint8_t *text, size_t length, size_t object, size_t log, struct mc2_report *report);
@@ -150,8 +124,7 @@ void mc2_custom_merge(const uint8_t *text, size_t length, const uint64_t *right,
 // determine the next state, keep all states that are possible, and call a step wrong that leaves none. The model doesn't get the
 // CPU: if it matters which CPU called, for example which one releases a lock, make the CPU a number of the call.
 struct mc2_model {
-    // The word that a record has for this kind of object.
-    const char *kind;
+    const char *kind; // the word that a record has for this kind of object
     // Returns the state before the first event, or NULL: no object has these numbers, or there is no memory.
     void *(*open)(const uint64_t *numbers, uint64_t count);
     // Returns NULL if the step is right, and otherwise why it isn't, in a few words. After a wrong step the model is closed.
@@ -177,9 +150,7 @@ static inline bool mc2_custom_is(const struct mc2_custom_term *term, const char 
 // For each object: the bytes where its line and the head of its log begin, and how many steps of the log are right.
 struct mc2_custom_logs {
     size_t objects;
-    uint64_t object[MC2_CUSTOM_OBJECTS];
-    uint64_t log[MC2_CUSTOM_OBJECTS];
-    uint64_t right[MC2_CUSTOM_OBJECTS];
+    uint64_t object[MC2_CUSTOM_OBJECTS], log[MC2_CUSTOM_OBJECTS], right[MC2_CUSTOM_OBJECTS];
 };
 
 // Internal: the byte where the line begins that is this many lines further on.
@@ -189,8 +160,7 @@ static inline size_t mc2_priv_skip_lines(const uint8_t *text, size_t length, siz
     return at;
 }
 
-// Internal: finds the lines of the objects and of their logs. If the text isn't a record it finds a part of them, and the library
-// refuses the text.
+// Internal: finds the lines of objects and of their logs; only some if the text isn't a record, which the library then refuses.
 static inline void mc2_priv_find_logs(const uint8_t *text, size_t length, struct mc2_custom_logs *logs) {
     struct mc2_custom_line line;
     size_t at = 0, found = 0;
@@ -236,8 +206,7 @@ static inline uint64_t mc2_priv_count_steps(const uint8_t *text, size_t length, 
     return right;
 }
 
-// Internal: counts the right steps of one object's log by its model, or by the library's if none has its kind. Returns whether
-// there is a model.
+// Internal: counts the right steps of an object's log by its model, or else by the library's. Returns whether there is a model.
 static inline bool mc2_priv_ask(const uint8_t *text, size_t length, const struct mc2_model *models, size_t count,
                                 struct mc2_custom_logs *logs, size_t object) {
     struct mc2_custom_line line;
@@ -286,14 +255,13 @@ static inline void mc2_custom_judge(const uint8_t *text, size_t length, const st
 }
 
 // Internal: the layouts, as in mc2_judge.h.
-MC2_PRIV_LAYOUT(MC2_PRIV_HAS(mc2_custom_term, word, 0) && MC2_PRIV_HAS(mc2_custom_term, numbers, 16) &&
-                MC2_PRIV_HAS(mc2_custom_term, count, 64) && sizeof(struct mc2_custom_term) == 72);
-MC2_PRIV_LAYOUT(MC2_PRIV_HAS(mc2_custom_step, call, 0) && MC2_PRIV_HAS(mc2_custom_step, reply, 72) &&
-                sizeof(struct mc2_custom_step) == 144);
-MC2_PRIV_LAYOUT(MC2_PRIV_HAS(mc2_custom_line, kind, 0) && MC2_PRIV_HAS(mc2_custom_line, cpu, 4) &&
-                MC2_PRIV_HAS(mc2_custom_line, next, 8) && MC2_PRIV_HAS(mc2_custom_line, limit, 16) &&
-                MC2_PRIV_HAS(mc2_custom_line, count, 24) && MC2_PRIV_HAS(mc2_custom_line, name, 32) &&
-                MC2_PRIV_HAS(mc2_custom_line, object_kind, 48) && MC2_PRIV_HAS(mc2_custom_line, numbers, 64) &&
-                MC2_PRIV_HAS(mc2_custom_line, steps, 320) && sizeof(struct mc2_custom_line) == 1472);
+MC2_PRIV_LAYOUT(mc2_custom_term, 72, MC2_PRIV_AT(0, mc2_custom_term, word) && MC2_PRIV_AT(16, mc2_custom_term, numbers) &&
+                MC2_PRIV_AT(64, mc2_custom_term, count));
+MC2_PRIV_LAYOUT(mc2_custom_step, 144, MC2_PRIV_AT(0, mc2_custom_step, call) && MC2_PRIV_AT(72, mc2_custom_step, reply));
+MC2_PRIV_LAYOUT(mc2_custom_line, 1472, MC2_PRIV_AT(0, mc2_custom_line, kind) && MC2_PRIV_AT(4, mc2_custom_line, cpu) &&
+                MC2_PRIV_AT(8, mc2_custom_line, next) && MC2_PRIV_AT(16, mc2_custom_line, limit) &&
+                MC2_PRIV_AT(24, mc2_custom_line, count) && MC2_PRIV_AT(32, mc2_custom_line, name) &&
+                MC2_PRIV_AT(48, mc2_custom_line, object_kind) && MC2_PRIV_AT(64, mc2_custom_line, numbers) &&
+                MC2_PRIV_AT(320, mc2_custom_line, steps));
 
 #endif

@@ -32,12 +32,10 @@ struct mc2_custom_witness {
     // In: room for one place more than the log has right steps. Out: the `count` steps that are kept, and after them the wrong one.
     struct mc2_custom_place *steps;
     size_t count;
-    // In: how many steps the model may be asked about, so that the search ends in time. Out: how many are left.
-    uint64_t left;
+    uint64_t left; // in: how many steps the model may be asked about, so that the search ends in time; out: how many are left
     // Out: what would have been right in place of the wrong reply after the whole log, as the model says it; empty if it doesn't.
     char right[MC2_CUSTOM_RIGHT];
-    // Out: whether another reply may be right after only the kept steps.
-    bool is_by_reason;
+    bool is_by_reason; // out: whether another reply may be right after only the kept steps
 };
 
 // Internal: the steps that a trial leaves out: those from `from` on up to `to`; or, in one of the ways below, each that has a
@@ -119,8 +117,7 @@ static inline bool mc2_priv_is_out(struct mc2_priv_search *search, const struct 
            number <= without->most;
 }
 
-// Internal: why the last step is wrong, if all others that aren't left out are right; else NULL. Writes the reply that would have
-// been right.
+// Internal: why the last step is wrong, if the others that aren't left out are right; else NULL. Writes the right reply.
 static inline const char *mc2_priv_reason(struct mc2_priv_search *search, const struct mc2_priv_without *without, char *right) {
     const struct mc2_model *model = search->model;
     size_t at = 0, last = search->witness->count;

@@ -11,9 +11,6 @@
 #define MC2_HEAP_H
 
 #include "mc2_result.h"
-#include <stdbool.h>
-#include <stddef.h>
-#include <stdint.h>
 
 // Internal: the 16 bytes before a block. The size includes them. An allocated block is in no list.
 struct mc2_priv_block {

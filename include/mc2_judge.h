@@ -35,12 +35,7 @@
 #ifndef MC2_JUDGE_H
 #define MC2_JUDGE_H
 
-#ifdef MC2_TYPES
-#include MC2_TYPES
-#else
-#include <stddef.h>
-#include <stdint.h>
-#endif
+#include "mc2_result.h"
 
 #ifdef __cplusplus
 extern "C" {
@@ -49,36 +44,25 @@ extern "C" {
 // The kinds of reports. After each colon are its numbers, in the order `first`, `second`, `third`. Objects, events, steps, CPUs
 // and entries are numbered from 0, in the order of the record.
 enum mc2_verdict {
-    // The record is sound. From mc2_merge: the number of entries, all of which are in `order`.
-    MC2_SOUND = 0,
+    MC2_SOUND = 0, // the record is sound; from mc2_merge: the number of entries, all of which are in `order`
 
     // ---- Faults: the record is unsound. The first one is reported.
-
-    // A log has more events than its limit: the object.
-    MC2_TOO_LONG = 1,
-    // A step has a wrong reply, or follows a step of its event that refused: the object, the event, the step.
-    MC2_WRONG_STEP = 2,
-    // An entry says that the log had no room, but it had: the CPU, the entry.
-    MC2_ROOM_WAS_LEFT = 3,
-    // An entry's steps aren't those of the CPU's next event on that object, or there is no next one: the CPU, the entry.
-    MC2_NOT_ITS_EVENT = 4,
-    // An entry's steps aren't the calls that were asked for: the CPU, the entry.
-    MC2_NOT_ASKED = 5,
-    // An event has no entry: the object, the event.
-    MC2_UNCLAIMED = 6,
+    MC2_TOO_LONG = 1,      // a log has more events than its limit: the object
+    MC2_WRONG_STEP = 2,    // a step has a wrong reply, or follows a step of its event that refused: the object, the event, the step
+    MC2_ROOM_WAS_LEFT = 3, // an entry says that the log had no room, but it had: the CPU, the entry
+    MC2_NOT_ITS_EVENT = 4, // an entry's steps aren't those of the CPU's next event on that object, or there is no next one: the
+                           // CPU, the entry
+    MC2_NOT_ASKED = 5,     // an entry's steps aren't the calls that were asked for: the CPU, the entry
+    MC2_UNCLAIMED = 6,     // an event has no entry: the object, the event
 
     // ---- Other reports
-
-    // The record is sound, but its entries have no order: the number of entries, all in `order`, that wait for one another.
-    MC2_CYCLE = 7,
-    // The text isn't a record: the first line, from 1, that can't follow the lines before it.
-    MC2_BAD_LINE = 8,
+    MC2_CYCLE = 7,         // the record is sound, but its entries have no order: the number of entries, all in `order`, that wait
+                           // for one another
+    MC2_BAD_LINE = 8,      // the text isn't a record: the first line, from 1, that can't follow the lines before it
     MC2_OUT_OF_MEMORY = 9,
-    // The order, or the cycle, has more entries than `capacity`: the number of entries. Nothing was written to `order`.
-    MC2_NO_ROOM = 10,
-    // Only from mc2_custom.h. The text is a record, but a count is missing, there is one too many, or one is above the number of
-    // steps of its log: the first such object.
-    MC2_WRONG_COUNTS = 11
+    MC2_NO_ROOM = 10,      // the order or the cycle has more entries than `capacity`: their number. Nothing was written to `order`.
+    MC2_WRONG_COUNTS = 11  // only from mc2_custom.h: the text is a record, but a count is missing, there is one too many, or one is
+                           // above the number of steps of its log: the first such object
 };
 
 // A report: one of mc2_verdict, and its numbers. The numbers that a kind doesn't have are 0.
@@ -98,8 +82,7 @@ void mc2_audit(const uint8_t *text, size_t length, struct mc2_report *report);
 
 // Judges a record, and puts the entries of a sound one in one order. Each CPU's entries are in the order of its transcript, and
 // those with an event on an object are in the order of its log. Where several entries could be next, the lowest CPU's is.
-//   order, capacity   the places that receive the order or the cycle; the others aren't written. A record 1 or 2 has at most
-//                     640,000 entries.
+//   order, capacity   places that receive the order or the cycle; the others aren't written. Records 1 and 2 have at most 640,000.
 // Returns  in `report`: as mc2_audit; MC2_CYCLE; MC2_NO_ROOM.
 void mc2_merge(const uint8_t *text, size_t length, struct mc2_entry_id *order, size_t capacity, struct mc2_report *report);
 
@@ -108,15 +91,11 @@ void mc2_merge(const uint8_t *text, size_t length, struct mc2_entry_id *order, s
 #endif
 
 // Internal: the structs are laid out as the library has them. tests/c/judge compares its sources with this header, name by name.
-#ifdef __cplusplus
-#define MC2_PRIV_LAYOUT(is_same) static_assert(is_same, "the library has another layout")
-#else
-#define MC2_PRIV_LAYOUT(is_same) _Static_assert(is_same, "the library has another layout")
-#endif
-#define MC2_PRIV_HAS(type, field, place) (offsetof(struct type, field) == (place))
+#define MC2_PRIV_LAYOUT(name, size, fields) typedef char mc2_priv_same_layout[sizeof(struct name) == (size) && (fields) ? 1 : -1]
+#define MC2_PRIV_AT(place, name, field) (offsetof(struct name, field) == (place))
 
-MC2_PRIV_LAYOUT(MC2_PRIV_HAS(mc2_report, kind, 0) && MC2_PRIV_HAS(mc2_report, first, 8) && MC2_PRIV_HAS(mc2_report, second, 16) &&
-                MC2_PRIV_HAS(mc2_report, third, 24) && sizeof(struct mc2_report) == 32);
-MC2_PRIV_LAYOUT(MC2_PRIV_HAS(mc2_entry_id, cpu, 0) && MC2_PRIV_HAS(mc2_entry_id, entry, 8) && sizeof(struct mc2_entry_id) == 16);
+MC2_PRIV_LAYOUT(mc2_report, 32, MC2_PRIV_AT(0, mc2_report, kind) && MC2_PRIV_AT(8, mc2_report, first) &&
+                MC2_PRIV_AT(16, mc2_report, second) && MC2_PRIV_AT(24, mc2_report, third));
+MC2_PRIV_LAYOUT(mc2_entry_id, 16, MC2_PRIV_AT(0, mc2_entry_id, cpu) && MC2_PRIV_AT(8, mc2_entry_id, entry));
 
 #endif

@@ -4,19 +4,9 @@
 
 #include "mc2_result.h"
 
-// A kernel whose types come from a header of its own, as in Linux, defines MC2_TYPES as that header's name, in quotes.
-#ifdef MC2_TYPES
-#include MC2_TYPES
-#else
-#include <stdbool.h>
-#include <stddef.h>
-#include <stdint.h>
-#endif
-
 // The limits of objects and of records. tests/c/records compares them with the definitions that the proofs use.
-enum { MC2_MOST_CPUS = 64, MC2_MOST_OBJECTS = 16, MC2_MOST_NAME = 16, MC2_MOST_EVENTS = 65536, MC2_MOST_ENTRIES = 10000 };
-enum { MC2_MOST_CALLS = 8, MC2_MOST_THREADS = 1024, MC2_MOST_CHANNELS = 64, MC2_MOST_PAGES = 4096, MC2_MOST_BYTES = 4096 };
-enum { MC2_OWNERS = 16 };
+enum { MC2_OWNERS = 16, MC2_MOST_CPUS = 64, MC2_MOST_OBJECTS = 16, MC2_MOST_NAME = 16, MC2_MOST_EVENTS = 65536, MC2_MOST_CALLS = 8,
+       MC2_MOST_ENTRIES = 10000, MC2_MOST_THREADS = 1024, MC2_MOST_CHANNELS = 64, MC2_MOST_PAGES = 4096, MC2_MOST_BYTES = 4096 };
 
 // A FIFO queue of threads; a pool of pages with quotas; a ring buffer of bytes; a scheduler's ready queue with sleep channels.
 enum mc2_kind { MC2_QUEUE, MC2_POOL, MC2_CONSOLE, MC2_SCHED, MC2_KINDS };
@@ -43,8 +33,7 @@ enum mc2_reply_word {
 //   kind      enum mc2_kind
 //   lock      enum mc2_lock_kind
 //   events    the capacity of its log, 1 to 65,536; for a cell also 0: no log is kept
-//   size      the threads of a queue or a scheduler, 1 to 1,024, numbered from 0; the pages or bytes of a pool or a console, 1 to
-//             4,096
+//   size      the threads of a queue or a scheduler, 1 to 1,024, numbered from 0; a pool's pages or a console's bytes, 1 to 4,096
 //   channels  1 to 64 for a scheduler, 0 otherwise
 //   quotas    a pool: how many pages each of the 16 owners may have, 0 to 4,096, or NULL if each may have all. NULL otherwise.
 struct mc2_object {

@@ -1,58 +1,46 @@
 // mc2_result.h - the results of the functions of mc2 headers: 0 for success, and a positive number otherwise. mc2_judge.h and
-// mc2_custom.h return verdicts instead.
+// mc2_custom.h return verdicts instead. All headers take their types from here.
 #ifndef MC2_RESULT_H
 #define MC2_RESULT_H
 
+// A kernel whose types come from a header of its own, as in Linux, defines MC2_TYPES as that header's name, in quotes.
+#ifdef MC2_TYPES
+#include MC2_TYPES
+#else
+#include <stdbool.h>
+#include <stddef.h>
+#include <stdint.h>
+#endif
+
 enum mc2_result {
-    // Success.
-    MC2_DONE = 0,
+    MC2_DONE = 0, // success
 
     // ---- Cells, callers and locks. The library returns these numbers: a contract pins each of them.
-
-    // The caller is in line and its turn hasn't come: pause, then call again.
-    MC2_AGAIN = 1,
-    // The caller holds the lock: it entered an empty MCS queue, without a look.
-    MC2_ACQUIRED = 2,
-    // The caller holds the lock: a look showed that its turn has come.
-    MC2_ACQUIRED_BY_LOOK = 3,
-    // The lock is released, and the caller is idle.
-    MC2_RELEASED = 4,
-    // The cell or the caller isn't in a state that allows the call, or a batch has 0 or more than 8 calls. Nothing was changed.
-    MC2_REFUSED = 5,
-    // From a try: another caller holds the lock or is in line for it. From closing: the library still shares the cell, which doesn't happen
-    // if the obligations of mc2_cells.h are met.
-    MC2_BUSY = 6,
-    // One step of the lock is done. Take the next without a pause.
-    MC2_STEPPED = 7,
-    // The log has no room for another event. The call was not performed.
-    MC2_LOG_FULL = 8,
-    // There is no such call, or no such step in the log.
-    MC2_NOT_FOUND = 9,
-    // From opening: the allocator had no memory, or the memory given is too small. Nothing was opened.
-    MC2_NO_MEMORY = 10,
-    // From opening: an argument is out of range. Nothing was opened.
-    MC2_BAD_PARAM = 11,
-    // Whole calls without waiting: as MC2_DONE and MC2_LOG_FULL, but the caller still holds the lock and has to release it.
-    MC2_DONE_HELD = 12,
-    MC2_LOG_FULL_HELD = 13,
+    MC2_AGAIN = 1,            // the caller is in line and its turn hasn't come: pause, then call again
+    MC2_ACQUIRED = 2,         // the caller holds the lock: it entered an empty MCS queue, without a look
+    MC2_ACQUIRED_BY_LOOK = 3, // the caller holds the lock: a look showed that its turn has come
+    MC2_RELEASED = 4,         // the lock is released, and the caller is idle
+    MC2_REFUSED = 5,          // the cell or the caller isn't in a state that allows the call, or a batch has 0 or more than 8
+                              // calls. Nothing was changed.
+    MC2_BUSY = 6,             // a try: another caller holds the lock or is in line for it; closing: the library still shares the
+                              // cell, which doesn't happen if the obligations of mc2_cells.h are met
+    MC2_STEPPED = 7,          // one step of the lock is done: take the next without a pause
+    MC2_LOG_FULL = 8,         // the log has no room for another event: the call was not performed
+    MC2_NOT_FOUND = 9,        // there is no such call, or no such step in the log
+    MC2_NO_MEMORY = 10,       // opening: the allocator had no memory, or the memory given is too small. Nothing was opened.
+    MC2_BAD_PARAM = 11,       // opening: an argument is out of range. Nothing was opened.
+    MC2_DONE_HELD = 12,       // whole calls without waiting: as MC2_DONE and MC2_LOG_FULL, but the caller still holds the lock and
+    MC2_LOG_FULL_HELD = 13,   // has to release it
 
     // ---- Recorders
-
-    // The CPU's memory for its notes is full. Nothing was noted.
-    MC2_TRANSCRIPT_FULL = 32,
-    // A pointer is NULL.
-    MC2_BAD_POINTER = 33,
-    // There is no such object, or its description is wrong.
-    MC2_BAD_OBJECT = 34,
-    MC2_BAD_CPU = 35,
-    // A number of calls, steps, objects, CPUs or entries is out of range, or the recorder isn't open.
-    MC2_BAD_COUNT = 36,
-    // There is no such call or reply, or a byte is above 255.
-    MC2_BAD_STEP = 37,
-    // Two CPUs were inside one lock at the same time.
-    MC2_MIXED = 38,
-    // Writing the record failed. It may have been written in part.
-    MC2_WRITE_FAILED = 39
+    MC2_TRANSCRIPT_FULL = 32, // the CPU's memory for its notes is full. Nothing was noted.
+    MC2_BAD_POINTER = 33,     // a pointer is NULL
+    MC2_BAD_OBJECT = 34,      // there is no such object, or its description is wrong
+    MC2_BAD_CPU = 35,         // there is no such CPU
+    MC2_BAD_COUNT = 36,       // a number of calls, steps, objects, CPUs or entries is out of range, or the recorder isn't open
+    MC2_BAD_STEP = 37,        // there is no such call or reply, or a byte is above 255
+    MC2_MIXED = 38,           // two CPUs were inside one lock at the same time
+    MC2_WRITE_FAILED = 39     // writing the record failed. It may have been written in part.
 };
 
 // Returns a short English text for a result, such as "out of memory". The text is constant; don't free it. `long long` takes each

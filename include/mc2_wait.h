@@ -9,11 +9,7 @@
 #ifndef MC2_WAIT_H
 #define MC2_WAIT_H
 
-#ifdef MC2_TYPES
-#include MC2_TYPES
-#else
-#include <stdint.h>
-#endif
+#include "mc2_result.h"
 
 // Internal: cold paths, never inlined.
 #define MC2_PRIV_COLD __attribute__((__noinline__, __cold__, __unused__)) static

@@ -3,7 +3,7 @@
 /// The number of a name in an enum of a header.
 fn number_of(name: &str, header: &str) -> Option<u32> {
     let line = header.lines().find_map(|line| line.trim().strip_prefix(name)?.strip_prefix(" = "));
-    line?.trim_end_matches(',').parse().ok()
+    line?.split([',', ' ']).next()?.parse().ok()
 }
 
 /// `OutOfMemory` as a header writes it: `MC2_OUT_OF_MEMORY`.
