@@ -6,8 +6,7 @@
 //
 //     std::vector<mc2::caller> callers(cpus);
 //     mc2::expected<mc2::cell> cell = mc2::cell::open(run_queue, callers.data(), cpus);
-//     if (!cell)
-//         return cell.result();
+//     if (!cell) return cell.result();
 //     mc2::expected<mc2_reply> reply = callers[cpu].call(mc2_call_of(MC2_ENQ, 3, 0));
 //     cell->close(callers.data(), cpus);
 //

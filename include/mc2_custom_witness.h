@@ -83,13 +83,6 @@ static inline size_t mc2_priv_places(struct mc2_priv_search *search, size_t log,
     return found;
 }
 
-static inline bool mc2_priv_is_same(const char *one, const char *other) {
-    size_t at = 0;
-    while (one[at] && one[at] == other[at])
-        at++;
-    return one[at] == other[at];
-}
-
 // Internal: the step of the witness at that index, which is valid until another one is read.
 static inline const struct mc2_custom_step *mc2_priv_step_at(struct mc2_priv_search *search, size_t at) {
     const struct mc2_custom_place *place = &search->witness->steps[at];
@@ -144,7 +137,7 @@ static inline bool mc2_priv_leave_out(struct mc2_priv_search *search, const stru
     char right[MC2_CUSTOM_RIGHT];
     const char *why = mc2_priv_reason(search, without, right);
     size_t kept = 0;
-    if (!why || !mc2_priv_is_same(why, search->reason) || (!witness->is_by_reason && !mc2_priv_is_same(right, witness->right)))
+    if (!why || !mc2_priv_are_alike(why, search->reason) || (!witness->is_by_reason && !mc2_priv_are_alike(right, witness->right)))
         return false;
     for (size_t at = 0; at < witness->count; at++) {
         bool is_out = mc2_priv_is_out(search, without, at);

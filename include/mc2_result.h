@@ -59,4 +59,12 @@ static inline const char *mc2_result_text(long long result) {
     return result >= MC2_TRANSCRIPT_FULL && result <= MC2_WRITE_FAILED ? recorders[result - MC2_TRANSCRIPT_FULL] : "no such result";
 }
 
+// Internal: whether two texts are the same.
+static inline bool mc2_priv_are_alike(const char *one, const char *other) {
+    size_t at = 0;
+    while (one[at] && one[at] == other[at])
+        at++;
+    return one[at] == other[at];
+}
+
 #endif

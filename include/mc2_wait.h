@@ -53,51 +53,44 @@ static inline void mc2_priv_pause(uint64_t looks) {
     }
 }
 
+// Internal: whether waiters sleep, and how.
 #ifdef MC2_USLEEP
+#define MC2_PRIV_SLEEP(microseconds) MC2_USLEEP(microseconds)
+enum { MC2_PRIV_SLEEPS = 1 };
+#else
+#define MC2_PRIV_SLEEP(microseconds) ((void)(microseconds))
+enum { MC2_PRIV_SLEEPS = 0 };
+#endif
+
 MC2_PRIV_COLD void mc2_priv_throttle_sleep(struct mc2_waiters *waiters) {
     const uint64_t throttled = (uint64_t)1 << 32;
     uint32_t others = (uint32_t)(__atomic_fetch_add(&waiters->word, throttled, __ATOMIC_RELAXED) / throttled);
     others = others > MC2_PRIV_MOST_OTHERS ? (uint32_t)MC2_PRIV_MOST_OTHERS : others;
-    MC2_USLEEP(MC2_PRIV_THROTTLE + MC2_PRIV_THROTTLE_EACH * others);
+    MC2_PRIV_SLEEP(MC2_PRIV_THROTTLE + MC2_PRIV_THROTTLE_EACH * others);
     __atomic_fetch_sub(&waiters->word, throttled, __ATOMIC_RELAXED);
 }
-#endif
 
 // Throttles a caller that is about to join the line: sleeps once if a waiter sleeps in line.
 static inline void mc2_throttle(struct mc2_waiters *waiters) {
-#ifdef MC2_USLEEP
-    if ((uint32_t)__atomic_load_n(&waiters->word, __ATOMIC_RELAXED) != 0)
+    if (MC2_PRIV_SLEEPS && (uint32_t)__atomic_load_n(&waiters->word, __ATOMIC_RELAXED) != 0)
         mc2_priv_throttle_sleep(waiters);
-#else
-    (void)waiters;
-#endif
 }
 
 // Waits after a failed look: pauses, or sleeps.
 //   failed   the failed looks in a row, this one included: 1, 2, 3 ..
 static inline void mc2_backoff(struct mc2_waiters *waiters, uint64_t failed) {
-#ifdef MC2_USLEEP
-    if (failed == MC2_PRIV_LONG_WAIT)
+    if (MC2_PRIV_SLEEPS && failed == MC2_PRIV_LONG_WAIT)
         __atomic_fetch_add(&waiters->word, 1, __ATOMIC_RELAXED);
-    if (failed >= MC2_PRIV_LONG_WAIT) {
-        MC2_USLEEP(MC2_PRIV_SLEEP_IN_LINE);
-        return;
-    }
-#else
-    (void)waiters;
-#endif
-    MC2_PAUSE(failed);
+    if (MC2_PRIV_SLEEPS && failed >= MC2_PRIV_LONG_WAIT)
+        MC2_PRIV_SLEEP(MC2_PRIV_SLEEP_IN_LINE);
+    else
+        MC2_PAUSE(failed);
 }
 
 // Ends a wait. Call it once the waiter's turn has come, with the number of failed looks, which may be 0.
 static inline void mc2_backoff_end(struct mc2_waiters *waiters, uint64_t failed) {
-#ifdef MC2_USLEEP
-    if (failed >= MC2_PRIV_LONG_WAIT)
+    if (MC2_PRIV_SLEEPS && failed >= MC2_PRIV_LONG_WAIT)
         __atomic_fetch_sub(&waiters->word, 1, __ATOMIC_RELAXED);
-#else
-    (void)waiters;
-    (void)failed;
-#endif
 }
 
 #endif
