@@ -42,7 +42,11 @@ pub extern "C" fn mc2_poll_try_acquire(caller: &mut Handle) -> u32
 /// Performs one call as one event of the log. The caller must hold the lock.
 /// Returns DONE: the reply is written; LOG_FULL, NOT_FOUND: nothing was done; REFUSED: it doesn't hold the lock.
 #[unsafe(no_mangle)]
-pub extern "C" fn mc2_handle_apply(caller: &mut Handle, asked: &Asked, answered: &mut Answered) -> u32
+pub extern "C" fn mc2_handle_apply(
+    caller: &mut Handle,
+    asked: &Asked,
+    answered: &mut Answered,
+) -> u32
     ensures { ReportsApply (content_of caller.old) asked.now answered.old result (content_of caller.new) answered.new }
 {
     let Some(call) = shared_called_of(asked) else {
