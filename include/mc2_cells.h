@@ -360,7 +360,7 @@ static inline uint32_t mc2_cell_drop_log(struct mc2_cell *cell) {
 }
 
 // Reopens a closed cell, with the object that it has, and opens its callers. Earlier events stay in the log; new ones get the next
-// numbers, and have the room that was left.
+// numbers, and have the room that was left. Beside what the library needs it takes 1,536 bytes of stack, for 64 callers.
 //   lock     enum mc2_lock_kind; it may differ from before
 //   callers, cpus   as mc2_cell_open
 // Returns  MC2_DONE; MC2_REFUSED: the cell isn't closed; MC2_BAD_PARAM, MC2_NO_MEMORY. An error changes neither cell nor callers.
