@@ -4,3 +4,4 @@ pub mod Passes
 pub mod AtOnce
 pub mod Arrivals
 pub mod KeptHolds
+pub mod Callers

@@ -1,13 +1,13 @@
 //! Operations of MCS lock callers whose `next` is clear while they rest.
 
 ghost use Rattle.std.specs.Prelude.{[], true, false, IfOk, IfErr};
-ghost use Rattle.word_rule.specs.{declared.lock_kind.Stage.TheVariants.Idle, CallerState.Moves, Mcs.Steps.{IsEmpty, IsEnter}, Passes.{state_of_pass, state_of_hold}};
-ghost use Rattle.mcs_lock.specs.{Arrivals.{AfterClear, IsRestedOf, state_of_rested}, Passes.{IsPassOf, IsBehindOf, IsHoldOf, IsAloneOf, IsLeavingOf, IfHold, IfBehind, state_of_behind, state_of_alone, state_of_leaving}};
+ghost use Rattle.word_rule.specs.{declared.lock_kind.Stage.TheVariants.Idle, CallerState.Moves, Mcs.Steps.{IsEmpty, IsEnter, IsReady}, Passes.{state_of_pass, state_of_hold}};
+ghost use Rattle.mcs_lock.specs.{Arrivals.{AfterClear, IsRestedOf, state_of_rested}, Passes.{IsPassOf, IsBehindOf, IsHoldOf, IsAloneOf, IsLeavingOf, IsTryingOf, IfHold, IfBehind, state_of_behind, state_of_alone, state_of_leaving, state_of_trying}};
 
 use crate::at_once_rule::{Arrive, Rest, Wake};
 use crate::cell::McsCell;
 use crate::rested::Rested;
-use crate::states::{Alone, Behind, Entered, Leaving};
+use crate::states::{Alone, Behind, Entered, Leaving, Trying};
 use event_log::SeqObject;
 use word_rule::{Hold, Inside, Pass};
 
@@ -66,6 +66,17 @@ impl<O: SeqObject> McsCell<O> {
             };
             Err(Leaving { inside })
         }
+    }
+
+    /// Prepares a try, since its `next` is clear: no step of the lock.
+    #[inline]
+    pub fn ready(&self, rested: Rested<O>) -> Trying<O>
+        requires { IsRestedOf self.now rested }
+        ensures trying { IsTryingOf self.now result }
+        ensures step { IsReady O.SeqObject (state_of_rested rested) (state_of_trying result) }
+    {
+        let Rested { outside } = rested;
+        Trying { outside }
     }
 
     /// Makes the caller a pass again, which can be joined and can close the cell: one load, which is no step.

@@ -11,11 +11,13 @@
 
 mod at_once;
 mod at_once_rule;
+mod caller;
 mod cell;
 mod keeping;
 mod kept;
 mod lock;
 mod make;
+mod polls;
 mod rested;
 mod rule;
 mod states;
@@ -23,6 +25,7 @@ mod steps;
 mod tries;
 mod whole;
 
+pub use caller::McsCaller;
 pub use cell::McsCell;
 pub use kept::{Kept, KeptAlone};
 pub use rested::Rested;
