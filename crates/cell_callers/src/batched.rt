@@ -4,19 +4,17 @@
 ghost use Rattle.std.specs.Prelude.{◌≡◌, ◌<◌, ◌≤◌, length};
 ghost use Rattle.event_log.specs.declared.event.TheConstants.{MOST_CALLS};
 ghost use Rattle.std_alloc.specs.Arc.{arc_value};
-ghost use Rattle.guarded_cell.specs.Kinds.{IsHoldOf};
+ghost use Rattle.guarded_cell.specs.{AnyCallers.{IsCallerOf, state_of_caller}, Kinds.IsHoldOf};
 ghost use Rattle.word_rule.specs.Passes.{state_of_hold};
 ghost use Rattle.kernel_object.specs.contracts.object.KernelObjectSeqObject.TheImpl.{ghosts};
-ghost use Rattle.cell_callers.specs.{HandleContents.KernelCell, Wholes.IsHeldCall, CallerStates.{IsOf, state_of}, BatchReports.{IsRepliedHeld, ReportsHeldBatch, ReportsBatchedAt, ReportsBatched}};
+ghost use Rattle.cell_callers.specs.{Callers.KernelCell, BatchReports.{IsRepliedHeld, ReportsHeldBatch, ReportsBatchedAt, ReportsBatched}};
 
-use crate::arrival::{Arrival, arrive};
+use crate::Caller;
 use crate::batching::Replies;
-use crate::departure::depart;
 use crate::report_codes::{AGAIN, DONE, LOG_FULL, REFUSED, count_look, kept_code, steps_code};
-use crate::{Caller, CallerState};
-use guarded_cell::AnyCell;
+use guarded_cell::{AnyCaller, AnyCell};
 use kernel_object::{KCall, KernelObject};
-use word_rule::Hold;
+use word_rule::{Hold, Polled, PolledCell};
 
 /// Does the calls as one event and writes their replies, unless the log is full.
 #[inline(never)]
@@ -36,18 +34,18 @@ fn batch_held(
     mut hold: Hold<KernelObject>,
     calls: &[KCall],
     replies: &mut Replies,
-) -> (CallerState<KernelObject>, u32)
+) -> (AnyCaller<KernelObject>, u32)
     requires hold { IsHoldOf cell.now hold }
     requires some { 0 < length calls.now }
     requires few { length calls.now ≤ MOST_CALLS }
-    ensures of { IsOf cell.now result.0 }
-    ensures caller { (state_of result.0).caller ≡ (state_of_hold hold).caller }
+    ensures of { IsCallerOf cell.now result.0 }
+    ensures caller { (state_of_caller result.0).caller ≡ (state_of_hold hold).caller }
     ensures reports { ReportsHeldBatch cell.now hold calls.now replies.old result.1 replies.new result.0 }
 {
     let reported = apply_all_held(&mut hold, calls, replies);
-    match depart(cell, hold) {
-        (state, true) => (state, reported),
-        (state, false) => (state, kept_code(reported)),
+    match cell.poll_release(hold) {
+        (caller, true) => (caller, reported),
+        (caller, false) => (caller, kept_code(reported)),
     }
 }
 
@@ -56,28 +54,28 @@ fn batch_held(
 #[inline(never)]
 fn batch(
     cell: &AnyCell<KernelObject>,
-    state: CallerState<KernelObject>,
+    caller: AnyCaller<KernelObject>,
     calls: &[KCall],
     replies: &mut Replies,
     looks: &mut u64,
-) -> (CallerState<KernelObject>, u32)
-    requires state { IsOf cell.now state }
+) -> (AnyCaller<KernelObject>, u32)
+    requires caller { IsCallerOf cell.now caller }
     requires some { 0 < length calls.now }
     requires few { length calls.now ≤ MOST_CALLS }
-    ensures of { IsOf cell.now result.0 }
-    ensures caller { (state_of result.0).caller ≡ (state_of state).caller }
-    ensures reports { ReportsBatchedAt cell.now state calls.now (replies.old, looks.old) result.1 result.0 (replies.new, looks.new) }
+    ensures of { IsCallerOf cell.now result.0 }
+    ensures caller { (state_of_caller result.0).caller ≡ (state_of_caller caller).caller }
+    ensures reports { ReportsBatchedAt cell.now caller calls.now (replies.old, looks.old) result.1 result.0 (replies.new, looks.new) }
 {
-    match arrive(cell, state) {
-        Ok(Arrival::Got(hold, looked)) => {
+    match cell.poll_acquire(caller) {
+        Polled::Held(hold, looked) => {
             count_look(looked, looks);
             batch_held(cell, hold, calls, replies)
         }
-        Ok(Arrival::Waits(state)) => {
+        Polled::Waits(caller) => {
             count_look(true, looks);
-            (state, AGAIN)
+            (caller, AGAIN)
         }
-        Err(state) => (state, REFUSED),
+        Polled::Refused(caller) => (caller, REFUSED),
     }
 }
 
@@ -93,8 +91,8 @@ pub fn batch_in_place(
     ensures cell { arc_value caller.new.cell ≡ arc_value caller.old.cell }
     ensures reports { ReportsBatched (arc_value caller.old.cell) calls.now caller.old.place (replies.old, looks.old) result caller.new.place (replies.new, looks.new) }
 {
-    let place = &mut caller.place;
-    let (state, reported) = batch(&caller.cell, place.take(), calls, replies, looks);
-    place.put(state);
+    let (cell, place) = (&*caller.cell, &mut caller.place);
+    let (caller, reported) = batch(cell, place.take(cell), calls, replies, looks);
+    place.put(cell, caller);
     reported
 }

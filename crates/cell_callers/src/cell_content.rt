@@ -1,38 +1,49 @@
-//! Effects on the content of a handle, for cells.
+//! The content of a cell's handle, and effects on it.
 
 ghost use Rattle.std.specs.Prelude.{◌≡◌, ◌↔◌, Err};
-ghost use Rattle.cell_callers.specs.CellContents.{IsOpenedBy, IsBadOpening, IsNewCallerIn, IsOwn, IsReturnedTo, IsClosedBy, step_of, may_be_freed};
+ghost use Rattle.cell_callers.specs.CellContents.{IsOpenedBy, IsBadOpening, IsNewCallerIn, IsOwn, IsReturnedTo, IsClosedBy, step_of};
 
 use crate::cell_lifetime::{NoNewCaller, NotClosed};
 use crate::logged_step::{LoggedStep, step_at};
 use crate::opening::{NotOpened, Opening, open_cell};
-use crate::{Caller, HandleContent};
+use crate::{Caller, OpenCell};
+use event_log::Logged;
 use kernel_object::KernelObject;
 use std::alloc::Global;
 
-impl HandleContent {
+/// The content of a cell's handle.
+pub enum CellContent {
+    /// Nothing, as in a new handle.
+    Empty,
+    /// An open cell.
+    Open(OpenCell<KernelObject>),
+    /// The object of a closed cell, with its log.
+    Closed(Logged<KernelObject>),
+}
+
+impl CellContent {
     /// Opens a new cell, if the handle is empty.
-    pub fn open(self, alloc: Global, opening: &Opening) -> (HandleContent, Result<(), NotOpened>)
+    pub fn open(self, alloc: Global, opening: &Opening) -> (CellContent, Result<(), NotOpened>)
         ensures opened { IsOpenedBy self opening.now result.1 result.0 }
         ensures judged { IsBadOpening self opening.now ↔ (result.1 ≡ Err NotOpened.BadOpening) }
     {
         match self {
-            HandleContent::Empty => match open_cell(alloc, opening) {
-                Ok(cell) => (HandleContent::Cell(cell), Ok(())),
-                Err(why) => (HandleContent::Empty, Err(why)),
+            CellContent::Empty => match open_cell(alloc, opening) {
+                Ok(cell) => (CellContent::Open(cell), Ok(())),
+                Err(why) => (CellContent::Empty, Err(why)),
             },
             other => (other, Err(NotOpened::NotEmpty)),
         }
     }
 
     /// Creates a caller of a cell that has a pass left.
-    pub fn new_caller(self) -> (HandleContent, Result<Caller<KernelObject>, NoNewCaller>)
+    pub fn new_caller(self) -> (CellContent, Result<Caller<KernelObject>, NoNewCaller>)
         ensures { IsNewCallerIn self result.1 result.0 }
     {
         match self {
-            HandleContent::Cell(cell) => {
+            CellContent::Open(cell) => {
                 let (cell, caller) = cell.new_caller();
-                (HandleContent::Cell(cell), caller)
+                (CellContent::Open(cell), caller)
             }
             other => (other, Err(NoNewCaller::NoneLeft)),
         }
@@ -42,27 +53,27 @@ impl HandleContent {
     pub fn return_caller(
         self,
         caller: Caller<KernelObject>,
-    ) -> (HandleContent, Option<Caller<KernelObject>>)
+    ) -> (CellContent, Option<Caller<KernelObject>>)
         requires { IsOwn self caller }
         ensures { IsReturnedTo self caller result.1 result.0 }
     {
         match self {
-            HandleContent::Cell(cell) => {
+            CellContent::Open(cell) => {
                 let (cell, left) = cell.return_caller(caller);
-                (HandleContent::Cell(cell), left)
+                (CellContent::Open(cell), left)
             }
             other => (other, Some(caller)),
         }
     }
 
     /// Closes a cell, once all callers are returned.
-    pub fn close(self) -> (HandleContent, Result<(), NotClosed>)
+    pub fn close(self) -> (CellContent, Result<(), NotClosed>)
         ensures { IsClosedBy self result.1 result.0 }
     {
         match self {
-            HandleContent::Cell(cell) => match cell.close() {
-                Ok(logged) => (HandleContent::Ended(logged), Ok(())),
-                Err((cell, why)) => (HandleContent::Cell(cell), Err(why)),
+            CellContent::Open(cell) => match cell.close() {
+                Ok(logged) => (CellContent::Closed(logged), Ok(())),
+                Err((cell, why)) => (CellContent::Open(cell), Err(why)),
             },
             other => (other, Err(NotClosed::NotAllBack)),
         }
@@ -73,18 +84,8 @@ impl HandleContent {
         ensures { result ≡ step_of self.now event step }
     {
         match self {
-            HandleContent::Ended(logged) => step_at(logged.log(), event, step),
+            CellContent::Closed(logged) => step_at(logged.log(), event, step),
             _ => None,
-        }
-    }
-
-    /// Whether it may be freed: it has no caller, or one that is idle.
-    pub fn is_free(&self) -> bool
-        ensures { result ≡ may_be_freed self.now }
-    {
-        match self {
-            HandleContent::Caller(caller) => caller.place.is_idle(),
-            _ => true,
         }
     }
 }

@@ -6,7 +6,7 @@ ghost use Rattle.sound_run.specs.declared.limits.TheConstants.{MOST_CPUS};
 ghost use Rattle.cell_callers.specs.{OpenCells.{IsHome, TakesIn}, NewCells.IsOpenedOn, Ends.{IsNewCaller, IsReturned, IsClosed}};
 
 use crate::unused_cell::end_unused;
-use crate::{Caller, CallerPlace, CallerState, OpenCell};
+use crate::{Caller, CallerPlace, OpenCell};
 use event_log::{Logged, SeqObject};
 use guarded_cell::AnyCell;
 use sound_run::{LockKind, MOST_CPUS};
@@ -92,7 +92,11 @@ impl<O: SeqObject> OpenCell<O> {
         };
         let caller = Caller {
             cell: shared,
-            place: CallerPlace::of(CallerState::Idle(pass)),
+            place: CallerPlace {
+                pass: Some(pass),
+                rested: None,
+                line: None,
+            },
         };
         (rest, Ok(caller))
     }
@@ -131,20 +135,16 @@ impl<O: SeqObject> OpenCell<O> {
         requires { arc_value caller.cell ≡ arc_value self.cell }
         ensures { IsReturned self caller result.1 result.0 }
     {
-        let Caller { cell, place } = caller;
-        match place.into_state() {
-            CallerState::Idle(pass) => {
-                if self.back < self.cpus && pass.outside.cpu.number == u32::from(self.back) {
-                    return (self.with_back(pass), None);
-                }
-                let place = CallerPlace::of(CallerState::Idle(pass));
-                (self, Some(Caller { cell, place }))
-            }
-            state => {
-                let place = CallerPlace::of(state);
-                (self, Some(Caller { cell, place }))
-            }
+        let Some(cpu) = caller.place.idle_cpu() else {
+            return (self, Some(caller));
+        };
+        if self.back >= self.cpus || cpu != u32::from(self.back) {
+            return (self, Some(caller));
         }
+        let Caller { cell, place } = caller;
+        let pass = place.into_pass(&cell);
+        drop(cell);
+        (self.with_back(pass), None)
     }
 
     /// Closes the cell if each CPU's caller was returned. Returns the object with its log.

@@ -2,61 +2,45 @@
 //! does a whole call. Between two of them it stays in one state.
 #![tactic(auto)]
 
-mod acquiring;
 mod applying;
-mod arrival;
 mod batched;
 mod batching;
 mod call_law;
 mod call_numbers;
 mod caller;
-mod caller_state;
 mod cell_content;
 mod cell_lifetime;
-mod departure;
 mod handle;
-mod handle_content;
 mod logged_step;
 mod open_cell;
 mod opening;
-mod parts;
 mod pinned_codes;
 mod place;
-mod progress;
-mod releasing;
 mod reopening;
 mod report_codes;
 mod straight;
-mod trying;
 mod unused_cell;
 mod whole;
 
-pub use acquiring::acquire_step;
-pub use applying::apply;
-pub use arrival::{Arrival, arrive};
+pub use applying::{apply, try_hold};
 pub use batched::batch_in_place;
 pub use batching::{Batch, Replies, write_calls};
 pub use call_law::one_call_is_a_hold;
 pub use call_numbers::{Answered, Asked, called_of, shared_called_of};
 pub use caller::Caller;
-pub use caller_state::CallerState;
+pub use cell_content::CellContent;
 pub use cell_lifetime::{NoNewCaller, NotClosed};
-pub use departure::{depart, depart_mcs};
 pub use handle::{Handle, at_content, with_content};
-pub use handle_content::HandleContent;
 pub use logged_step::LoggedStep;
 pub use open_cell::OpenCell;
 pub use opening::{NotOpened, Opening};
-pub use parts::Parts;
 pub use pinned_codes::shows_codes;
 pub use place::CallerPlace;
-pub use progress::Progress;
-pub use releasing::release_step;
 pub use report_codes::{
     ACQUIRED, ACQUIRED_BY_LOOK, AGAIN, BAD_PARAM, BUSY, DONE, DONE_HELD, LOG_FULL, LOG_FULL_HELD,
     NO_MEMORY, NOT_FOUND, REFUSED, RELEASED, STEPPED, call_code, opening_code, progress_code,
     shared_answer_code, try_code,
 };
 pub use straight::call_straight;
-pub use trying::try_hold;
-pub use whole::{TriedCall, Whole, call_in_line, try_call};
+pub use whole::{TriedCall, Whole, try_call};
+pub use word_rule::Progress;

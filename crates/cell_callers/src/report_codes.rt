@@ -3,12 +3,13 @@
 ghost use Rattle.std.specs.Prelude.{◌≡◌};
 ghost use Rattle.cell_callers.specs.{Codes.{progress_code, try_code, answer_code, kept_code, call_code, looks_after, has_looked, opening_code}, BatchCodes.ReportsAll};
 
+use crate::Whole;
 use crate::batching::{Replies, write_replies};
 use crate::call_numbers::{Answered, reply_code};
 use crate::opening::NotOpened;
-use crate::{Progress, Whole};
 use event_log::{NoRoom, Steps};
 use kernel_object::{KReply, KernelObject};
+use word_rule::Progress;
 
 /// Success.
 pub const DONE: u32 = 0;

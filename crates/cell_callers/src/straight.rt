@@ -2,29 +2,31 @@
 //! in functions of their own, which return the result themselves, so that this path needn't clear their locals.
 
 ghost use Rattle.std.specs.Prelude.{◌≡◌, true, None, Some};
-ghost use Rattle.guarded_cell.specs.{declared.cell.AnyCell.AnyCell, declared.cell.AnyCell.TheVariants.{Ticket, Mcs}};
-ghost use Rattle.cell_callers.specs.declared.caller_state.CallerState.TheVariants as at;
-ghost use Rattle.cell_callers.specs.{declared.report_codes.TheConstants.AGAIN, CallerStates.{IfMcs, IsOne}, HandleContents.KernelState, CallReports.{GoesBehind, ReportsCalled, ReportsCalledAt}, Codes.{kept_code, looks_after}, Places.{IsAway, IsPlaceOf}};
+ghost use Rattle.guarded_cell.specs.declared.cell.AnyCell.TheVariants.{Ticket, Mcs};
+ghost use Rattle.guarded_cell.specs.declared.any_caller.AnyCaller.TheVariants as callers;
+ghost use Rattle.ticket_lock.specs.declared.caller.TicketCaller.TheVariants as at_ticket;
+ghost use Rattle.mcs_lock.specs.declared.caller.McsCaller.TheVariants as at_mcs;
+ghost use Rattle.cell_callers.specs.{declared.report_codes.TheConstants.AGAIN, Callers.{IfMcs, IsOne, KernelCaller}, CallReports.{GoesBehind, HasEntered, IsEnteredOf, OneEntered, ReportsCalled, ReportsCalledAt}, Codes.{kept_code, looks_after}, Places.{IsAway, IsPlaceOf}};
 ghost use Rattle.ticket_lock.specs.Passes.{IsPassOf as IsTicketPassOf};
 ghost use Rattle.mcs_lock.specs.Passes.{IsPassOf as IsMcsPassOf, IsBehindOf, IsPassingOf, state_of_behind, state_of_passing};
 ghost use Rattle.word_rule.specs.{Mcs.Steps.IsPass, Passes.state_of_pass};
 ghost use Rattle.kernel_object.specs.contracts.object.KernelObjectSeqObject.TheImpl.{ghosts};
 ghost use Rattle.std_alloc.specs.Arc.{arc_value};
 
-use crate::arrival::line_up;
+use crate::applying::apply_held;
 use crate::call_numbers::Answered;
-use crate::place::put_line;
+use crate::place::put_in;
 use crate::report_codes::{AGAIN, DONE, LOG_FULL, answer_code, call_code, count_look, kept_code};
-use crate::whole::{apply_held, call_arrived};
-use crate::{Caller, CallerPlace, CallerState, call_in_line};
+use crate::whole::call_polled;
+use crate::{Caller, CallerPlace};
 use core::mem::replace;
-use guarded_cell::AnyCell;
+use guarded_cell::{AnyCaller, AnyCell, polled_mcs};
 use kernel_object::{KCall, KernelObject};
-use mcs_lock::{Behind, Entered, Leaving, McsCell, Passing};
-use ticket_lock::{Drawn, TicketCell};
-use word_rule::Pass;
+use mcs_lock::{Behind, Entered, Leaving, McsCaller, McsCell, Passing};
+use ticket_lock::{Drawn, TicketCaller, TicketCell};
+use word_rule::{Pass, PolledCell};
 
-type Line = Option<CallerState<KernelObject>>;
+type Line = Option<AnyCaller<KernelObject>>;
 
 // A caller that isn't idle continues from its state.
 #[cold]
@@ -40,8 +42,9 @@ fn go_on(
     ensures place { IsPlaceOf cell.now place.new }
     ensures reports { ReportsCalled cell.now call place.old (answered.old, looks.old) result place.new (answered.new, looks.new) }
 {
-    let (state, whole) = call_in_line(cell, place.take(), &call);
-    place.put(state);
+    let polled = cell.poll_acquire(place.take(cell));
+    let (caller, whole) = call_polled(cell, polled, &call);
+    place.put(cell, caller);
     call_code(whole, answered, looks)
 }
 
@@ -50,11 +53,11 @@ fn go_on(
 #[inline(never)]
 fn wait_drawn(line: &mut Line, drawn: Drawn<KernelObject>, looks: &mut u64) -> u32
     requires { line.old ≡ None }
-    ensures line { line.new ≡ Some (at.Drawn drawn) }
+    ensures line { line.new ≡ Some (callers.Ticket (at_ticket.Drawn drawn)) }
     ensures looks { looks.new ≡ looks_after true looks.old }
     ensures reported { result ≡ AGAIN }
 {
-    put_line(line, CallerState::Drawn(drawn));
+    put_in(line, AnyCaller::Ticket(TicketCaller::Drawn(drawn)));
     count_look(true, looks);
     AGAIN
 }
@@ -74,13 +77,13 @@ fn come_behind(
     requires one { IsOne (state_of_behind behind).caller }
     requires away { IsAway place.old }
     ensures place { IsPlaceOf any.now place.new }
-    ensures reports { (p : KernelState) → GoesBehind any.now p behind → ReportsCalledAt any.now call p (answered.old, looks.old) result place.new (answered.new, looks.new) }
+    ensures reports { (p : KernelCaller) → GoesBehind any.now p behind → ReportsCalledAt any.now call p (answered.old, looks.old) result place.new (answered.new, looks.new) }
 {
     let AnyCell::Mcs(cell) = any else {
         unreachable!()
     };
-    let (state, whole) = call_arrived(any, line_up(cell, behind), &call);
-    place.put(state);
+    let (caller, whole) = call_polled(any, polled_mcs(cell.line_up(behind)), &call);
+    place.put(any, caller);
     call_code(whole, answered, looks)
 }
 
@@ -89,10 +92,10 @@ fn come_behind(
 #[inline(never)]
 fn keep(line: &mut Line, leaving: Leaving<KernelObject>, reported: u32) -> u32
     requires { line.old ≡ None }
-    ensures line { line.new ≡ Some (at.Leaving leaving) }
+    ensures line { line.new ≡ Some (callers.Mcs (at_mcs.Leaving leaving)) }
     ensures reported { result ≡ kept_code reported }
 {
-    put_line(line, CallerState::Leaving(leaving));
+    put_in(line, AnyCaller::Mcs(McsCaller::Leaving(leaving)));
     kept_code(reported)
 }
 
@@ -120,9 +123,9 @@ fn straight_ticket(
     requires one { IsOne (state_of_pass pass).caller }
     requires away { IsAway place.old }
     ensures place { IsPlaceOf (Ticket cell.now) place.new }
-    ensures reports { ReportsCalledAt (Ticket cell.now) call (at.Idle pass) (answered.old, looks.old) result place.new (answered.new, looks.new) }
+    ensures reports { ReportsCalledAt (Ticket cell.now) call (callers.Ticket (at_ticket.Idle pass)) (answered.old, looks.old) result place.new (answered.new, looks.new) }
 {
-    match cell.look(cell.draw(pass)) {
+    match cell.arrive(pass) {
         Ok(mut hold) => {
             let reported = answer_code(apply_held(&mut hold, &call), DONE, LOG_FULL, answered);
             place.pass = Some(cell.serve(hold));
@@ -133,37 +136,62 @@ fn straight_ticket(
     }
 }
 
+// From the entry into the queue.
 #[inline]
 fn straight_mcs(
     any: &AnyCell<KernelObject>,
     cell: &McsCell<KernelObject>,
-    pass: Pass<KernelObject>,
+    entered: Entered<KernelObject>,
     place: &mut CallerPlace<KernelObject>,
     call: KCall,
     answered: &mut Answered,
     looks: &mut u64,
 ) -> u32
     requires cell { any.now ≡ Mcs cell.now }
-    requires pass { IsMcsPassOf cell.now pass }
-    requires one { IsOne (state_of_pass pass).caller }
+    requires of { IsEnteredOf cell.now entered }
+    requires one { OneEntered entered }
     requires away { IsAway place.old }
     ensures place { IsPlaceOf (Mcs cell.now) place.new }
-    ensures reports { ReportsCalledAt (Mcs cell.now) call (at.Idle pass) (answered.old, looks.old) result place.new (answered.new, looks.new) }
+    ensures reports { (p : KernelCaller) → HasEntered (Mcs cell.now) p entered → ReportsCalledAt (Mcs cell.now) call p (answered.old, looks.old) result place.new (answered.new, looks.new) }
 {
-    let mut hold = match cell.enter(cell.clear(pass)) {
+    let mut hold = match entered {
         Entered::Hold(hold) => hold,
         Entered::Behind(behind) => return come_behind(any, place, behind, call, answered, looks),
     };
     let reported = answer_code(apply_held(&mut hold, &call), DONE, LOG_FULL, answered);
-    let back = match cell.see(hold) {
-        Ok(passing) => pass_on(cell, passing),
-        Err(alone) => match cell.empty(alone) {
-            Ok(pass) => pass,
+    match cell.see(hold) {
+        Ok(passing) => place.pass = Some(pass_on(cell, passing)),
+        Err(alone) => match cell.rest(alone) {
+            Ok(rested) => put_in(&mut place.rested, rested),
             Err(leaving) => return keep(&mut place.line, leaving, reported),
         },
-    };
-    place.pass = Some(back);
+    }
     reported
+}
+
+// A caller of an MCS lock whose `next` may not be clear, as its last call had a successor.
+#[inline(never)]
+fn from_pass(
+    any: &AnyCell<KernelObject>,
+    cell: &McsCell<KernelObject>,
+    place: &mut CallerPlace<KernelObject>,
+    call: KCall,
+    answered: &mut Answered,
+    looks: &mut u64,
+) -> u32
+    requires cell { any.now ≡ Mcs cell.now }
+    requires place { IsPlaceOf (Mcs cell.now) place.old }
+    requires rested { place.old.rested ≡ None }
+    ensures place { IsPlaceOf (Mcs cell.now) place.new }
+    ensures reports { ReportsCalled (Mcs cell.now) call place.old (answered.old, looks.old) result place.new (answered.new, looks.new) }
+{
+    match replace(&mut place.pass, None) {
+        Some(pass) => {
+            let entered = cell.enter(cell.clear(pass));
+            straight_mcs(any, cell, entered, place, call, answered, looks)
+        }
+        None => go_on(any, place, call, answered, looks),
+    }
 }
 
 /// Does a whole call, as far as it comes without waiting, and returns its result. The reply is written if it was done, and the look
@@ -180,11 +208,17 @@ pub fn call_straight(
 {
     let any = &*caller.cell;
     let place = &mut caller.place;
-    let Some(pass) = replace(&mut place.pass, None) else {
-        return go_on(any, place, call, answered, looks);
-    };
     match any {
-        AnyCell::Ticket(cell) => straight_ticket(cell, pass, place, call, answered, looks),
-        AnyCell::Mcs(cell) => straight_mcs(any, cell, pass, place, call, answered, looks),
+        AnyCell::Ticket(cell) => match replace(&mut place.pass, None) {
+            Some(pass) => straight_ticket(cell, pass, place, call, answered, looks),
+            None => go_on(any, place, call, answered, looks),
+        },
+        AnyCell::Mcs(cell) => match replace(&mut place.rested, None) {
+            Some(rested) => {
+                let entered = cell.arrive(rested);
+                straight_mcs(any, cell, entered, place, call, answered, looks)
+            }
+            None => from_pass(any, cell, place, call, answered, looks),
+        },
     }
 }

@@ -1,19 +1,14 @@
 //! Whole calls, as far as they come without waiting: acquire the lock, do the call, and release the lock.
 
-ghost use Rattle.std.specs.Prelude.{◌≡◌, false};
-ghost use Rattle.guarded_cell.specs.{Kinds.IsHoldOf, declared.cell.AnyCell.AnyCell, declared.cell.AnyCell.TheVariants.{Ticket, Mcs}};
-ghost use Rattle.ticket_lock.specs.Passes.{IsPassOf as IsTicketPassOf};
-ghost use Rattle.mcs_lock.specs.Passes.{IsPassOf as IsMcsPassOf, IsHoldOf as IsMcsHoldOf};
-ghost use Rattle.cell_callers.specs.{declared.arrival.Arrival.TheVariants.Got, declared.caller_state.CallerState.TheVariants.{Holding, Idle}, CallerStates.{IsOf, state_of}, Applies.IsHeldApply, Arrivals.{IsArrival, arrived}, Wholes.{IsHeldCall, IsCalled, IsTryCalled}};
-ghost use Rattle.word_rule.specs.Passes.{state_of_pass, state_of_hold};
+ghost use Rattle.std.specs.Prelude.{◌≡◌};
+ghost use Rattle.word_rule.specs.{Passes.state_of_hold, Polls.{IsPolled, OfPolled, after_poll}};
+ghost use Rattle.guarded_cell.specs.{AnyCallers.{IsCallerOf, state_of_caller}, Kinds.{IsHoldOf, kind_of}};
+ghost use Rattle.cell_callers.specs.{Applies.IsHeldApply, Wholes.{IsHeldCall, IsCalled, IsTryCalled}};
 
-use crate::CallerState;
-use crate::arrival::{Arrival, arrive};
-use crate::departure::depart;
-use crate::trying::try_pass;
+use crate::applying::shared_apply_held;
 use event_log::{NoRoom, SeqObject};
-use guarded_cell::AnyCell;
-use word_rule::Hold;
+use guarded_cell::{AnyCaller, AnyCell};
+use word_rule::{Hold, Polled, PolledCell, Tried};
 
 /// How far a whole call came.
 #[derive(Drop)]
@@ -41,82 +36,42 @@ pub enum TriedCall<D> {
     Refused,
 }
 
-/// Does the call as one event, unless the log is full.
-#[inline]
-pub fn apply_held<O: SeqObject>(hold: &mut Hold<O>, asked: &O::Call) -> Result<O::Reply, NoRoom>
-    ensures of { (cell : AnyCell O O.Params O.Call O.Reply) → IsHoldOf cell hold.old → IsHoldOf cell hold.new }
-    ensures caller { (state_of_hold hold.new).caller ≡ (state_of_hold hold.old).caller }
-    ensures applied { IsHeldApply O.SeqObject hold.old asked.now result hold.new }
-{
-    hold.apply_one(asked)
-}
-
-/// The same, once in the library for the calls that needn't be the fastest.
-#[inline(never)]
-pub fn shared_apply_held<O: SeqObject>(
-    hold: &mut Hold<O>,
-    asked: &O::Call,
-) -> Result<O::Reply, NoRoom>
-    ensures of { (cell : AnyCell O O.Params O.Call O.Reply) → IsHoldOf cell hold.old → IsHoldOf cell hold.new }
-    ensures caller { (state_of_hold hold.new).caller ≡ (state_of_hold hold.old).caller }
-    ensures applied { IsHeldApply O.SeqObject hold.old asked.now result hold.new }
-{
-    apply_held(hold, asked)
-}
-
 #[inline]
 fn call_held<O: SeqObject>(
     cell: &AnyCell<O>,
     mut hold: Hold<O>,
     asked: &O::Call,
-) -> (CallerState<O>, Result<O::Reply, NoRoom>, bool)
+) -> (AnyCaller<O>, Result<O::Reply, NoRoom>, bool)
     requires { IsHoldOf cell.now hold }
-    ensures of { IsOf cell.now result.0 }
-    ensures caller { (state_of result.0).caller ≡ (state_of_hold hold).caller }
+    ensures of { IsCallerOf cell.now result.0 }
+    ensures caller { (state_of_caller result.0).caller ≡ (state_of_hold hold).caller }
     ensures called { IsHeldCall O.SeqObject (λ h k. IsHeldApply O.SeqObject h asked.now result.1 k) cell.now hold result.2 result.0 }
 {
     let done = shared_apply_held(&mut hold, asked);
-    let (state, is_back) = depart(cell, hold);
-    (state, done, is_back)
+    let (caller, is_back) = cell.poll_release(hold);
+    (caller, done, is_back)
 }
 
-// Does a whole call of a caller that has arrived.
+// Does a whole call of a caller that has polled its lock.
 #[cold]
 #[inline(never)]
-pub fn call_arrived<O: SeqObject>(
+pub fn call_polled<O: SeqObject>(
     cell: &AnyCell<O>,
-    arrival: Arrival<O>,
+    polled: Polled<Hold<O>, AnyCaller<O>>,
     asked: &O::Call,
-) -> (CallerState<O>, Whole<Result<O::Reply, NoRoom>>)
-    requires { IsOf cell.now (arrived arrival) }
-    ensures of { IsOf cell.now result.0 }
-    ensures caller { (state_of result.0).caller ≡ (state_of (arrived arrival)).caller }
-    ensures called { (p : _) → IsArrival O.SeqObject cell.now p arrival → IsCalled O.SeqObject cell.now p asked.now result.1 result.0 }
+) -> (AnyCaller<O>, Whole<Result<O::Reply, NoRoom>>)
+    requires { OfPolled (IsHoldOf cell.now) (IsCallerOf cell.now) polled }
+    ensures of { IsCallerOf cell.now result.0 }
+    ensures caller { (state_of_caller result.0).caller ≡ (after_poll O.SeqObject state_of_hold state_of_caller polled).caller }
+    ensures called { (p : _) → IsPolled O.SeqObject state_of_hold state_of_caller (kind_of cell.now) p polled → IsCalled O.SeqObject cell.now p asked.now result.1 result.0 }
 {
-    match arrival {
-        Arrival::Got(hold, looked) => match call_held(cell, hold, asked) {
-            (state, done, true) => (state, Whole::Done(done, looked)),
-            (state, done, false) => (state, Whole::Kept(done, looked)),
+    match polled {
+        Polled::Held(hold, looked) => match call_held(cell, hold, asked) {
+            (caller, done, true) => (caller, Whole::Done(done, looked)),
+            (caller, done, false) => (caller, Whole::Kept(done, looked)),
         },
-        Arrival::Waits(state) => (state, Whole::Waits),
-    }
-}
-
-/// Does a whole call of any caller, as far as it comes without waiting.
-#[cold]
-pub fn call_in_line<O: SeqObject>(
-    cell: &AnyCell<O>,
-    state: CallerState<O>,
-    asked: &O::Call,
-) -> (CallerState<O>, Whole<Result<O::Reply, NoRoom>>)
-    requires { IsOf cell.now state }
-    ensures of { IsOf cell.now result.0 }
-    ensures caller { (state_of result.0).caller ≡ (state_of state).caller }
-    ensures called { IsCalled O.SeqObject cell.now state asked.now result.1 result.0 }
-{
-    match arrive(cell, state) {
-        Ok(arrival) => call_arrived(cell, arrival, asked),
-        Err(state) => (state, Whole::Refused),
+        Polled::Waits(caller) => (caller, Whole::Waits),
+        Polled::Refused(caller) => (caller, Whole::Refused),
     }
 }
 
@@ -124,22 +79,20 @@ pub fn call_in_line<O: SeqObject>(
 #[inline]
 pub fn try_call<O: SeqObject>(
     cell: &AnyCell<O>,
-    state: CallerState<O>,
+    caller: AnyCaller<O>,
     asked: &O::Call,
-) -> (CallerState<O>, TriedCall<Result<O::Reply, NoRoom>>)
-    requires { IsOf cell.now state }
-    ensures of { IsOf cell.now result.0 }
-    ensures caller { (state_of result.0).caller ≡ (state_of state).caller }
-    ensures called { IsTryCalled O.SeqObject cell.now state asked.now result.1 result.0 }
+) -> (AnyCaller<O>, TriedCall<Result<O::Reply, NoRoom>>)
+    requires { IsCallerOf cell.now caller }
+    ensures of { IsCallerOf cell.now result.0 }
+    ensures caller { (state_of_caller result.0).caller ≡ (state_of_caller caller).caller }
+    ensures called { IsTryCalled O.SeqObject cell.now caller asked.now result.1 result.0 }
 {
-    match state {
-        CallerState::Idle(pass) => match try_pass(cell, pass) {
-            Ok(hold) => match call_held(cell, hold, asked) {
-                (state, done, true) => (state, TriedCall::Done(done)),
-                (state, done, false) => (state, TriedCall::Kept(done)),
-            },
-            Err(pass) => (CallerState::Idle(pass), TriedCall::Busy),
+    match cell.poll_try_acquire(caller) {
+        Tried::Held(hold) => match call_held(cell, hold, asked) {
+            (caller, done, true) => (caller, TriedCall::Done(done)),
+            (caller, done, false) => (caller, TriedCall::Kept(done)),
         },
-        other => (other, TriedCall::Refused),
+        Tried::Busy(caller) => (caller, TriedCall::Busy),
+        Tried::Refused(caller) => (caller, TriedCall::Refused),
     }
 }

@@ -4,46 +4,59 @@ ghost use Rattle.cells.specs.Exports.{content_of, ReportsAcquireStep, ReportsRel
 
 use arrayvec::ArrayVec;
 use cell_callers::{
-    Answered, Asked, BUSY, Batch, DONE, DONE_HELD, Handle, LOG_FULL, LOG_FULL_HELD, NOT_FOUND,
-    REFUSED, Replies, TriedCall, at_content, call_code, called_of, progress_code,
-    shared_answer_code, shared_called_of, try_code, write_calls,
+    Answered, Asked, BUSY, Batch, Caller, DONE, DONE_HELD, Handle, LOG_FULL, LOG_FULL_HELD,
+    NOT_FOUND, REFUSED, Replies, TriedCall, at_content, batch_in_place, call_straight, called_of,
+    progress_code, shared_answer_code, shared_called_of, try_code, write_calls,
 };
 use event_log::MOST_CALLS;
+use kernel_object::{KCall, KernelObject};
+
+/// The content of a caller's handle, which may be empty.
+pub type Content = Option<Caller<KernelObject>>;
 
 /// Performs the caller's next step towards the lock: one atomic operation on one word of it.
 /// Returns STEPPED: call again at once; AGAIN: pause first; ACQUIRED, ACQUIRED_BY_LOOK; REFUSED: it already holds the lock, or
 /// isn't a caller.
 #[unsafe(no_mangle)]
-pub extern "C" fn mc2_acquire_step(caller: &mut Handle) -> u32
+pub extern "C" fn mc2_acquire_step(caller: &mut Handle<Content>) -> u32
     ensures { ReportsAcquireStep (content_of caller.old) result (content_of caller.new) }
 {
-    progress_code(at_content(caller, (), |content, ()| content.acquire_step()))
+    progress_code(at_content(caller, (), |content, ()| match content {
+        Some(caller) => caller.acquire_step(),
+        None => None,
+    }))
 }
 
 /// Performs the caller's next step to release the lock.
 /// Returns STEPPED; AGAIN: a successor has entered an MCS queue and hasn't linked itself yet; RELEASED; REFUSED: it doesn't hold
 /// the lock, or isn't a caller.
 #[unsafe(no_mangle)]
-pub extern "C" fn mc2_release_step(caller: &mut Handle) -> u32
+pub extern "C" fn mc2_release_step(caller: &mut Handle<Content>) -> u32
     ensures { ReportsReleaseStep (content_of caller.old) result (content_of caller.new) }
 {
-    progress_code(at_content(caller, (), |content, ()| content.release_step()))
+    progress_code(at_content(caller, (), |content, ()| match content {
+        Some(caller) => caller.release_step(),
+        None => None,
+    }))
 }
 
 /// Acquires the lock if no one holds it or is in line, by one look at most.
 /// Returns ACQUIRED_BY_LOOK; BUSY: nothing was done; REFUSED: the caller isn't idle, or isn't a caller.
 #[unsafe(no_mangle)]
-pub extern "C" fn mc2_poll_try_acquire(caller: &mut Handle) -> u32
+pub extern "C" fn mc2_poll_try_acquire(caller: &mut Handle<Content>) -> u32
     ensures { ReportsTry (content_of caller.old) result (content_of caller.new) }
 {
-    try_code(at_content(caller, (), |content, ()| content.try_hold()))
+    try_code(at_content(caller, (), |content, ()| match content {
+        Some(caller) => caller.try_hold(),
+        None => None,
+    }))
 }
 
 /// Performs one call as one event of the log. The caller must hold the lock.
 /// Returns DONE: the reply is written; LOG_FULL, NOT_FOUND: nothing was done; REFUSED: it doesn't hold the lock.
 #[unsafe(no_mangle)]
 pub extern "C" fn mc2_handle_apply(
-    caller: &mut Handle,
+    caller: &mut Handle<Content>,
     asked: &Asked,
     answered: &mut Answered,
 ) -> u32
@@ -52,10 +65,41 @@ pub extern "C" fn mc2_handle_apply(
     let Some(call) = shared_called_of(asked) else {
         return NOT_FOUND;
     };
-    match at_content(caller, &call, |content, call| content.apply(call)) {
+    match at_content(caller, &call, |content, call| match content {
+        Some(caller) => caller.apply(call),
+        None => None,
+    }) {
         Some(done) => shared_answer_code(done, DONE, LOG_FULL, answered),
         None => REFUSED,
     }
+}
+
+/// Performs that call, as `mc2_poll_call` does.
+#[inline]
+pub fn call_of(
+    caller: &mut Handle<Content>,
+    call: KCall,
+    answered: &mut Answered,
+    looks: &mut u64,
+) -> u32
+    ensures { ReportsCallOf call (content_of caller.old) (answered.old, looks.old) result (content_of caller.new) (answered.new, looks.new) }
+{
+    // (by value: the contract of `at_content` doesn't say which value a borrow has after `at_content` has passed it on)
+    let (reported, said, looked) = at_content(
+        caller,
+        (call, *answered, *looks),
+        |content, (call, answered, looks)| {
+            let (mut answered, mut looks) = (answered, looks);
+            let reported = match content {
+                Some(caller) => call_straight(caller, call, &mut answered, &mut looks),
+                None => REFUSED,
+            };
+            (reported, answered, looks)
+        },
+    );
+    *answered = said;
+    *looks = looked;
+    reported
 }
 
 /// Acquires the lock, performs the call as one event, and releases the lock, as far as this needs no waiting. A look adds 1 to
@@ -65,7 +109,7 @@ pub extern "C" fn mc2_handle_apply(
 /// itself yet; NOT_FOUND: there is no such call; REFUSED: the caller isn't idle or at a look.
 #[unsafe(no_mangle)]
 pub extern "C" fn mc2_poll_call(
-    caller: &mut Handle,
+    caller: &mut Handle<Content>,
     asked: &Asked,
     answered: &mut Answered,
     looks: &mut u64,
@@ -75,8 +119,7 @@ pub extern "C" fn mc2_poll_call(
     let Some(call) = called_of(asked) else {
         return NOT_FOUND;
     };
-    let whole = at_content(caller, &call, |content, call| content.call(call));
-    call_code(whole, answered, looks)
+    call_of(caller, call, answered, looks)
 }
 
 /// Performs 1 to 8 calls as one event, as far as this needs no waiting. The event ends with the first call whose reply refuses it.
@@ -84,7 +127,7 @@ pub extern "C" fn mc2_poll_call(
 /// done. The replies are written if the event was performed.
 #[unsafe(no_mangle)]
 pub extern "C" fn mc2_poll_batch(
-    caller: &mut Handle,
+    caller: &mut Handle<Content>,
     batch: &Batch,
     replies: &mut Replies,
     looks: &mut u64,
@@ -104,7 +147,10 @@ pub extern "C" fn mc2_poll_batch(
         (calls.as_slice(), *replies, *looks),
         |content, (calls, replies, looks)| {
             let (mut replies, mut looks) = (replies, looks);
-            let reported = content.batch(calls, &mut replies, &mut looks);
+            let reported = match content {
+                Some(caller) => batch_in_place(caller, calls, &mut replies, &mut looks),
+                None => REFUSED,
+            };
             (reported, replies, looks)
         },
     );
@@ -117,7 +163,7 @@ pub extern "C" fn mc2_poll_batch(
 /// Returns as `mc2_poll_call`, with BUSY in place of AGAIN: nothing was done. REFUSED: the caller isn't idle, or isn't a caller.
 #[unsafe(no_mangle)]
 pub extern "C" fn mc2_poll_try_call(
-    caller: &mut Handle,
+    caller: &mut Handle<Content>,
     asked: &Asked,
     answered: &mut Answered,
 ) -> u32
@@ -126,7 +172,10 @@ pub extern "C" fn mc2_poll_try_call(
     let Some(call) = shared_called_of(asked) else {
         return NOT_FOUND;
     };
-    match at_content(caller, &call, |content, call| content.try_call(call)) {
+    match at_content(caller, &call, |content, call| match content {
+        Some(caller) => caller.try_call(call),
+        None => TriedCall::Refused,
+    }) {
         TriedCall::Done(done) => shared_answer_code(done, DONE, LOG_FULL, answered),
         TriedCall::Kept(done) => shared_answer_code(done, DONE_HELD, LOG_FULL_HELD, answered),
         TriedCall::Busy => BUSY,

@@ -1,4 +1,5 @@
 pub mod Kinds
+pub mod AnyCallers
 pub mod Groups
 pub mod Calls
 pub mod Limits

@@ -1,6 +1,7 @@
 //! An object behind a lock of either kind, and whole calls on it.
 #![tactic(auto)]
 
+mod any_caller;
 mod callers;
 mod cell;
 mod groups;
@@ -9,11 +10,13 @@ mod make;
 mod many_callers;
 mod on_threads;
 mod pinned_limits;
+mod polls;
 mod real_time;
 mod runs;
 mod tries;
 mod whole;
 
+pub use any_caller::{AnyCaller, polled_mcs};
 pub use callers::{call_all, call_on_two_threads, two_callers};
 pub use cell::AnyCell;
 pub use groups::MOST_GROUPS;
