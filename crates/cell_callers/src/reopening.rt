@@ -3,25 +3,30 @@
 ghost use Rattle.cell_callers.specs.Reopenings.{IsReopenedBy, IsForgotten};
 
 use crate::opening::{NotOpened, cpus_numbered, lock_numbered};
-use crate::{CellContent, OpenCell};
+use crate::{HandleContent, OpenCell};
 use std::alloc::Global;
 
-impl CellContent {
+impl HandleContent {
     /// Opens a new cell of that lock and number of CPUs, on the object of a closed one. The log continues.
-    pub fn reopen(self, alloc: Global, lock: u32, cpus: u32) -> (CellContent, Result<(), NotOpened>)
+    pub fn reopen(
+        self,
+        alloc: Global,
+        lock: u32,
+        cpus: u32,
+    ) -> (HandleContent, Result<(), NotOpened>)
         ensures { IsReopenedBy self lock cpus result.1 result.0 }
     {
         match self {
-            CellContent::Closed(logged) => {
+            HandleContent::Ended(logged) => {
                 let Some(lock) = lock_numbered(lock) else {
-                    return (CellContent::Closed(logged), Err(NotOpened::BadOpening));
+                    return (HandleContent::Ended(logged), Err(NotOpened::BadOpening));
                 };
                 let Some(cpus) = cpus_numbered(cpus) else {
-                    return (CellContent::Closed(logged), Err(NotOpened::BadOpening));
+                    return (HandleContent::Ended(logged), Err(NotOpened::BadOpening));
                 };
                 match OpenCell::open(alloc, lock, logged, cpus) {
-                    Ok(cell) => (CellContent::Open(cell), Ok(())),
-                    Err(logged) => (CellContent::Closed(logged), Err(NotOpened::OutOfMemory)),
+                    Ok(cell) => (HandleContent::Cell(cell), Ok(())),
+                    Err(logged) => (HandleContent::Ended(logged), Err(NotOpened::OutOfMemory)),
                 }
             }
             other => (other, Err(NotOpened::NotEmpty)),
@@ -29,11 +34,11 @@ impl CellContent {
     }
 
     /// Stops keeping the log of a closed cell, which then has room for 2^64 - 1 events.
-    pub fn forget(self, alloc: Global) -> (CellContent, bool)
+    pub fn forget(self, alloc: Global) -> (HandleContent, bool)
         ensures { IsForgotten self result.1 result.0 }
     {
         match self {
-            CellContent::Closed(logged) => (CellContent::Closed(logged.into_unkept(alloc)), true),
+            HandleContent::Ended(logged) => (HandleContent::Ended(logged.into_unkept(alloc)), true),
             other => (other, false),
         }
     }

@@ -4,26 +4,23 @@ ghost use Rattle.cells.specs.Exports.{content_of, ReportsAcquireStep, ReportsRel
 
 use arrayvec::ArrayVec;
 use cell_callers::{
-    Answered, Asked, BUSY, Batch, Caller, DONE, DONE_HELD, Handle, LOG_FULL, LOG_FULL_HELD,
+    Answered, Asked, BUSY, Batch, DONE, DONE_HELD, Handle, HandleContent, LOG_FULL, LOG_FULL_HELD,
     NOT_FOUND, REFUSED, Replies, TriedCall, at_content, batch_in_place, call_straight, called_of,
     progress_code, shared_answer_code, shared_called_of, try_code, write_calls,
 };
 use event_log::MOST_CALLS;
-use kernel_object::{KCall, KernelObject};
-
-/// The content of a caller's handle, which may be empty.
-pub type Content = Option<Caller<KernelObject>>;
+use kernel_object::KCall;
 
 /// Performs the caller's next step towards the lock: one atomic operation on one word of it.
 /// Returns STEPPED: call again at once; AGAIN: pause first; ACQUIRED, ACQUIRED_BY_LOOK; REFUSED: it already holds the lock, or
 /// isn't a caller.
 #[unsafe(no_mangle)]
-pub extern "C" fn mc2_acquire_step(caller: &mut Handle<Content>) -> u32
+pub extern "C" fn mc2_acquire_step(caller: &mut Handle) -> u32
     ensures { ReportsAcquireStep (content_of caller.old) result (content_of caller.new) }
 {
     progress_code(at_content(caller, (), |content, ()| match content {
-        Some(caller) => caller.acquire_step(),
-        None => None,
+        HandleContent::Caller(caller) => caller.acquire_step(),
+        _ => None,
     }))
 }
 
@@ -31,24 +28,24 @@ pub extern "C" fn mc2_acquire_step(caller: &mut Handle<Content>) -> u32
 /// Returns STEPPED; AGAIN: a successor has entered an MCS queue and hasn't linked itself yet; RELEASED; REFUSED: it doesn't hold
 /// the lock, or isn't a caller.
 #[unsafe(no_mangle)]
-pub extern "C" fn mc2_release_step(caller: &mut Handle<Content>) -> u32
+pub extern "C" fn mc2_release_step(caller: &mut Handle) -> u32
     ensures { ReportsReleaseStep (content_of caller.old) result (content_of caller.new) }
 {
     progress_code(at_content(caller, (), |content, ()| match content {
-        Some(caller) => caller.release_step(),
-        None => None,
+        HandleContent::Caller(caller) => caller.release_step(),
+        _ => None,
     }))
 }
 
 /// Acquires the lock if no one holds it or is in line, by one look at most.
 /// Returns ACQUIRED_BY_LOOK; BUSY: nothing was done; REFUSED: the caller isn't idle, or isn't a caller.
 #[unsafe(no_mangle)]
-pub extern "C" fn mc2_poll_try_acquire(caller: &mut Handle<Content>) -> u32
+pub extern "C" fn mc2_poll_try_acquire(caller: &mut Handle) -> u32
     ensures { ReportsTry (content_of caller.old) result (content_of caller.new) }
 {
     try_code(at_content(caller, (), |content, ()| match content {
-        Some(caller) => caller.try_hold(),
-        None => None,
+        HandleContent::Caller(caller) => caller.try_hold(),
+        _ => None,
     }))
 }
 
@@ -56,7 +53,7 @@ pub extern "C" fn mc2_poll_try_acquire(caller: &mut Handle<Content>) -> u32
 /// Returns DONE: the reply is written; LOG_FULL, NOT_FOUND: nothing was done; REFUSED: it doesn't hold the lock.
 #[unsafe(no_mangle)]
 pub extern "C" fn mc2_handle_apply(
-    caller: &mut Handle<Content>,
+    caller: &mut Handle,
     asked: &Asked,
     answered: &mut Answered,
 ) -> u32
@@ -66,8 +63,8 @@ pub extern "C" fn mc2_handle_apply(
         return NOT_FOUND;
     };
     match at_content(caller, &call, |content, call| match content {
-        Some(caller) => caller.apply(call),
-        None => None,
+        HandleContent::Caller(caller) => caller.apply(call),
+        _ => None,
     }) {
         Some(done) => shared_answer_code(done, DONE, LOG_FULL, answered),
         None => REFUSED,
@@ -76,12 +73,7 @@ pub extern "C" fn mc2_handle_apply(
 
 /// Performs that call, as `mc2_poll_call` does.
 #[inline]
-pub fn call_of(
-    caller: &mut Handle<Content>,
-    call: KCall,
-    answered: &mut Answered,
-    looks: &mut u64,
-) -> u32
+pub fn call_of(caller: &mut Handle, call: KCall, answered: &mut Answered, looks: &mut u64) -> u32
     ensures { ReportsCallOf call (content_of caller.old) (answered.old, looks.old) result (content_of caller.new) (answered.new, looks.new) }
 {
     // (by value: the contract of `at_content` doesn't say which value a borrow has after `at_content` has passed it on)
@@ -91,8 +83,13 @@ pub fn call_of(
         |content, (call, answered, looks)| {
             let (mut answered, mut looks) = (answered, looks);
             let reported = match content {
-                Some(caller) => call_straight(caller, call, &mut answered, &mut looks),
-                None => REFUSED,
+                HandleContent::Caller(caller) => call_straight(
+                    caller,
+                    call,
+                    &mut answered,
+                    &mut looks,
+                ),
+                _ => REFUSED,
             };
             (reported, answered, looks)
         },
@@ -109,7 +106,7 @@ pub fn call_of(
 /// itself yet; NOT_FOUND: there is no such call; REFUSED: the caller isn't idle or at a look.
 #[unsafe(no_mangle)]
 pub extern "C" fn mc2_poll_call(
-    caller: &mut Handle<Content>,
+    caller: &mut Handle,
     asked: &Asked,
     answered: &mut Answered,
     looks: &mut u64,
@@ -127,7 +124,7 @@ pub extern "C" fn mc2_poll_call(
 /// done. The replies are written if the event was performed.
 #[unsafe(no_mangle)]
 pub extern "C" fn mc2_poll_batch(
-    caller: &mut Handle<Content>,
+    caller: &mut Handle,
     batch: &Batch,
     replies: &mut Replies,
     looks: &mut u64,
@@ -148,8 +145,13 @@ pub extern "C" fn mc2_poll_batch(
         |content, (calls, replies, looks)| {
             let (mut replies, mut looks) = (replies, looks);
             let reported = match content {
-                Some(caller) => batch_in_place(caller, calls, &mut replies, &mut looks),
-                None => REFUSED,
+                HandleContent::Caller(caller) => batch_in_place(
+                    caller,
+                    calls,
+                    &mut replies,
+                    &mut looks,
+                ),
+                _ => REFUSED,
             };
             (reported, replies, looks)
         },
@@ -163,7 +165,7 @@ pub extern "C" fn mc2_poll_batch(
 /// Returns as `mc2_poll_call`, with BUSY in place of AGAIN: nothing was done. REFUSED: the caller isn't idle, or isn't a caller.
 #[unsafe(no_mangle)]
 pub extern "C" fn mc2_poll_try_call(
-    caller: &mut Handle<Content>,
+    caller: &mut Handle,
     asked: &Asked,
     answered: &mut Answered,
 ) -> u32
@@ -173,8 +175,8 @@ pub extern "C" fn mc2_poll_try_call(
         return NOT_FOUND;
     };
     match at_content(caller, &call, |content, call| match content {
-        Some(caller) => caller.try_call(call),
-        None => TriedCall::Refused,
+        HandleContent::Caller(caller) => caller.try_call(call),
+        _ => TriedCall::Refused,
     }) {
         TriedCall::Done(done) => shared_answer_code(done, DONE, LOG_FULL, answered),
         TriedCall::Kept(done) => shared_answer_code(done, DONE_HELD, LOG_FULL_HELD, answered),

@@ -1,41 +1,51 @@
 //! The exports that make or free a handle, or take a cell.
 
-ghost use Rattle.std.specs.Prelude.{◌≡◌, ◌⊎◌, ◌↔◌, None, Some};
-ghost use Rattle.cell_callers.specs.{declared.report_codes.TheConstants.{BAD_PARAM, DONE, NO_MEMORY}, CellContents.IsBadOpening};
-ghost use Rattle.cells.specs.{Exports.content_of, CellExports.{ReportsOpening, ReportsReopening, ReportsForgetting, ReportsNewCaller, ReportsReturn, ReportsClosing, ReportsFreeing, ReportsStep, may_be_freed, owns_back}};
+ghost use Rattle.std.specs.Prelude.{◌≡◌, ◌⊎◌, ◌↔◌, IsSome};
+ghost use Rattle.cell_callers.specs.{declared.report_codes.TheConstants.{BAD_PARAM, DONE, NO_MEMORY}, CellContents.IsBadOpening, Places.idle_cpu, declared.handle_content.HandleContent.TheVariants.Empty};
+ghost use Rattle.cells.specs.{Exports.content_of, CellExports.{ReportsOpening, ReportsReopening, ReportsForgetting, ReportsNewCaller, ReportsReturn, ReportsClosing, ReportsFreeing, ReportsStep, owns_back}};
 
-use crate::exports::Content;
 use cell_callers::{
-    BUSY, Caller, CellContent, DONE, Handle, LoggedStep, NO_MEMORY, NOT_FOUND, NoNewCaller,
-    NotClosed, Opening, REFUSED, at_content, opening_code, with_content,
+    BUSY, Caller, DONE, Handle, HandleContent, LoggedStep, NO_MEMORY, NOT_FOUND, NoNewCaller,
+    NotClosed, Opening, Parts, REFUSED, opening_code, with_content,
 };
 use kernel_object::KernelObject;
 use std::alloc::Global;
 use std::mem::ManuallyDrop;
 
-/// Takes the caller out of the handle, which is then empty.
-fn take_caller(handle: &mut Handle<Content>) -> Content
+/// Takes the content out of the handle, which is then empty.
+fn take_content(handle: &mut Handle) -> HandleContent
     ensures content { result ≡ content_of handle.old }
-    ensures after { content_of handle.new ≡ None }
+    ensures after { content_of handle.new ≡ Empty }
 {
-    with_content(handle, (), |content, ()| (None, content))
+    with_content(handle, (), |content, ()| (HandleContent::Empty, content))
 }
 
-/// Puts the caller in the empty handle.
-fn put_caller(handle: &mut Handle<Content>, caller: Caller<KernelObject>)
-    requires { content_of handle.old ≡ None }
-    ensures { content_of handle.new ≡ Some caller }
+/// Puts the content in the empty handle.
+fn put_content(handle: &mut Handle, content: HandleContent)
+    requires { content_of handle.old ≡ Empty }
+    ensures { content_of handle.new ≡ content }
 {
-    let old = with_content(handle, caller, |old, caller| (Some(caller), old));
-    let None = old else { unreachable!() };
+    let old = with_content(handle, content, |old, content| (content, old));
+    let _nothing = unsafe { ManuallyDrop::new_unchecked(old) };
 }
 
-/// Stores the pointer of a new handle with that content.
-fn alloc_handle<T>(alloc: Global, content: T, own: &mut *mut u8) -> u32
+// Frees an idle caller. Its pass is lost, so its cell can't be closed any more.
+fn drop_caller(caller: Caller<KernelObject>)
+    requires { IsSome (idle_cpu caller.place) }
+{
+    let Caller { cell, place } = caller;
+    drop(place.into_pass(&cell));
+    drop(cell);
+}
+
+/// Allocates an empty handle and stores its pointer in `own`.
+/// Returns DONE; NO_MEMORY: `own` is unchanged.
+#[unsafe(no_mangle)]
+pub extern "C" fn mc2_handle_alloc(alloc: Global, own: &mut *mut u8) -> u32
     ensures codes { (result ≡ DONE) ⊎ (result ≡ NO_MEMORY) }
     ensures nothing { result ≡ NO_MEMORY → own.new ≡ own.old }
 {
-    let slot = unsafe { ManuallyDrop::new_unchecked(content) };
+    let slot = unsafe { ManuallyDrop::new_unchecked(HandleContent::Empty) };
     let Ok(block) = Box::new(alloc, slot) else {
         return NO_MEMORY;
     };
@@ -43,77 +53,32 @@ fn alloc_handle<T>(alloc: Global, content: T, own: &mut *mut u8) -> u32
     DONE
 }
 
-/// Allocates an empty handle for a cell and stores its pointer in `own`.
-/// Returns DONE; NO_MEMORY: `own` is unchanged.
-#[unsafe(no_mangle)]
-pub extern "C" fn mc2_handle_alloc_cell(alloc: Global, own: &mut *mut u8) -> u32
-    ensures codes { (result ≡ DONE) ⊎ (result ≡ NO_MEMORY) }
-    ensures nothing { result ≡ NO_MEMORY → own.new ≡ own.old }
-{
-    alloc_handle(alloc, CellContent::Empty, own)
-}
-
-/// Allocates an empty handle for a caller and stores its pointer in `own`.
-/// Returns DONE; NO_MEMORY: `own` is unchanged.
-#[unsafe(no_mangle)]
-pub extern "C" fn mc2_handle_alloc_caller(alloc: Global, own: &mut *mut u8) -> u32
-    ensures codes { (result ≡ DONE) ⊎ (result ≡ NO_MEMORY) }
-    ensures nothing { result ≡ NO_MEMORY → own.new ≡ own.old }
-{
-    alloc_handle(alloc, Content::None, own)
-}
-
-/// Frees a cell's handle with everything that it has. Returns DONE.
-#[unsafe(no_mangle)]
-pub extern "C" fn mc2_handle_free_cell(handle: Handle<CellContent>) -> u32
-    ensures { result ≡ DONE }
-{
-    match ManuallyDrop::into_inner(Box::into_inner(handle.into_box())) {
-        CellContent::Open(cell) => drop(cell),
-        CellContent::Closed(logged) => drop(logged),
-        CellContent::Empty => {}
-    }
-    DONE
-}
-
-/// Frees a caller's handle with everything that it has. The pass of an idle caller is lost, so its cell can't be closed any more.
+/// Frees a handle with everything that it has.
 /// Returns DONE; REFUSED: it has a caller that isn't idle, and nothing was freed.
 #[unsafe(no_mangle)]
-pub extern "C" fn mc2_handle_free_caller(handle: Handle<Content>) -> u32
+pub extern "C" fn mc2_handle_free(handle: Handle) -> u32
     ensures { ReportsFreeing (content_of handle) result }
 {
-    let mut block = handle.into_box();
-    if !is_free(&mut **block) {
-        let kept = Handle::of_box(block);
+    let block = handle.into_parts().into_box();
+    if !(**block).is_free() {
+        let kept = Handle::of_parts(Parts::of(block));
         let _kept = unsafe { ManuallyDrop::new_unchecked(kept) };
         return REFUSED;
     }
-    if let Some(Caller { cell, place }) = ManuallyDrop::into_inner(Box::into_inner(block)) {
-        drop(place.into_pass(&cell));
-        drop(cell);
+    match ManuallyDrop::into_inner(Box::into_inner(block)) {
+        HandleContent::Caller(caller) => drop_caller(caller),
+        HandleContent::Cell(cell) => drop(cell),
+        HandleContent::Ended(logged) => drop(logged),
+        HandleContent::Empty => {}
     }
     DONE
-}
-
-/// Whether a caller's handle may be freed: it is empty, or its caller is idle.
-fn is_free(content: &Content) -> bool
-    ensures { result ≡ may_be_freed content.now }
-{
-    match content {
-        Some(caller) => caller.place.idle_cpu().is_some(),
-        None => true,
-    }
 }
 
 /// Opens a cell in an empty handle.
 /// Returns DONE; REFUSED: the handle isn't empty; BAD_PARAM: a number doesn't fit; NO_MEMORY. After an error the handle is
 /// unchanged.
 #[unsafe(no_mangle)]
-pub extern "C" fn mc2_handle_open_cell(
-    alloc: Global,
-    cell: &mut Handle<CellContent>,
-    opening: &Opening,
-) -> u32
+pub extern "C" fn mc2_handle_open_cell(alloc: Global, cell: &mut Handle, opening: &Opening) -> u32
     ensures opened { ReportsOpening (content_of cell.old) opening.now result (content_of cell.new) }
     ensures judged { IsBadOpening (content_of cell.old) opening.now ↔ (result ≡ BAD_PARAM) }
 {
@@ -128,23 +93,20 @@ pub extern "C" fn mc2_handle_open_cell(
 /// Returns DONE; REFUSED: the cell isn't open, each CPU has a caller or had one, or `caller` isn't empty; NO_MEMORY: the cell has
 /// as many owners as can be counted.
 #[unsafe(no_mangle)]
-pub extern "C" fn mc2_handle_open_caller(
-    cell: &mut Handle<CellContent>,
-    caller: &mut Handle<Content>,
-) -> u32
+pub extern "C" fn mc2_handle_open_caller(cell: &mut Handle, caller: &mut Handle) -> u32
     ensures { ReportsNewCaller (content_of cell.old) (content_of caller.old) result (content_of cell.new) (content_of caller.new) }
 {
-    match take_caller(caller) {
-        None => match with_content(cell, (), |content, ()| content.new_caller()) {
+    match take_content(caller) {
+        HandleContent::Empty => match with_content(cell, (), |content, ()| content.new_caller()) {
             Ok(dealt) => {
-                put_caller(caller, dealt);
+                put_content(caller, HandleContent::Caller(dealt));
                 DONE
             }
             Err(NoNewCaller::NoneLeft) => REFUSED,
             Err(NoNewCaller::NoShare) => NO_MEMORY,
         },
-        Some(other) => {
-            put_caller(caller, other);
+        other => {
+            put_content(caller, other);
             REFUSED
         }
     }
@@ -153,29 +115,33 @@ pub extern "C" fn mc2_handle_open_caller(
 /// Returns an idle caller to its cell; the caller's handle is then empty. Callers go back in ascending order of CPU.
 /// Returns DONE; REFUSED: the cell isn't open, the caller isn't idle, or its CPU isn't the lowest whose caller wasn't returned yet.
 #[unsafe(no_mangle)]
-pub extern "C" fn mc2_handle_return_caller(
-    cell: &mut Handle<CellContent>,
-    caller: &mut Handle<Content>,
-) -> u32
+pub extern "C" fn mc2_handle_return_caller(cell: &mut Handle, caller: &mut Handle) -> u32
     requires { owns_back (content_of cell.old) (content_of caller.old) }
     ensures { ReportsReturn (content_of cell.old) (content_of caller.old) result (content_of cell.new) (content_of caller.new) }
 {
-    let Some(back) = take_caller(caller) else {
-        return REFUSED;
-    };
-    match with_content(cell, back, |content, back| content.return_caller(back)) {
-        Some(left) => {
-            put_caller(caller, left);
+    match take_content(caller) {
+        HandleContent::Caller(back) => match with_content(
+            cell,
+            back,
+            |content, back| content.return_caller(back),
+        ) {
+            Some(left) => {
+                put_content(caller, HandleContent::Caller(left));
+                REFUSED
+            }
+            None => DONE,
+        },
+        other => {
+            put_content(caller, other);
             REFUSED
         }
-        None => DONE,
     }
 }
 
 /// Closes a cell to which every caller was returned. The object and its log remain.
 /// Returns DONE; REFUSED: the cell isn't open, or a caller wasn't returned; BUSY: the cell has another owner.
 #[unsafe(no_mangle)]
-pub extern "C" fn mc2_handle_close_cell(cell: &mut Handle<CellContent>) -> u32
+pub extern "C" fn mc2_handle_close_cell(cell: &mut Handle) -> u32
     ensures { ReportsClosing (content_of cell.old) result (content_of cell.new) }
 {
     match with_content(cell, (), |content, ()| content.close()) {
@@ -191,7 +157,7 @@ pub extern "C" fn mc2_handle_close_cell(cell: &mut Handle<CellContent>) -> u32
 #[unsafe(no_mangle)]
 pub extern "C" fn mc2_handle_reopen_cell(
     alloc: Global,
-    cell: &mut Handle<CellContent>,
+    cell: &mut Handle,
     lock: u32,
     cpus: u32,
 ) -> u32
@@ -208,7 +174,7 @@ pub extern "C" fn mc2_handle_reopen_cell(
 /// Stops keeping the log of a closed cell. From then on it can't be read, and has room for 2^64 - 1 events.
 /// Returns DONE; REFUSED: the cell isn't closed.
 #[unsafe(no_mangle)]
-pub extern "C" fn mc2_handle_drop_log(alloc: Global, cell: &mut Handle<CellContent>) -> u32
+pub extern "C" fn mc2_handle_drop_log(alloc: Global, cell: &mut Handle) -> u32
     ensures { ReportsForgetting (content_of cell.old) result (content_of cell.new) }
 {
     if with_content(cell, (), |content, ()| content.forget(alloc)) {
@@ -222,7 +188,7 @@ pub extern "C" fn mc2_handle_drop_log(alloc: Global, cell: &mut Handle<CellConte
 /// Returns DONE: the step is written; NOT_FOUND: there is no such step, the cell isn't closed, or its log isn't kept.
 #[unsafe(no_mangle)]
 pub extern "C" fn mc2_handle_read_step(
-    cell: &mut Handle<CellContent>,
+    cell: &mut Handle,
     event: usize,
     step: usize,
     reported: &mut LoggedStep,

@@ -8,7 +8,7 @@ ghost use Rattle.kernel_object.specs.declared.call.KCall.TheVariants.{Queue, Sch
 ghost use Rattle.shared_queue.specs.declared.call.QueueCall.TheVariants as queue;
 ghost use Rattle.wake_list.specs.declared.call.SchedCall.TheVariants as sched;
 
-use crate::exports::{Content, call_of};
+use crate::exports::call_of;
 use cell_callers::{Answered, Handle};
 use kernel_object::KCall;
 use shared_queue::QueueCall;
@@ -17,7 +17,7 @@ use wake_list::SchedCall;
 /// Puts the thread at the end of a queue.
 #[unsafe(no_mangle)]
 pub extern "C" fn mc2_poll_enq(
-    caller: &mut Handle<Content>,
+    caller: &mut Handle,
     thread: u32,
     answered: &mut Answered,
     looks: &mut u64,
@@ -34,11 +34,7 @@ pub extern "C" fn mc2_poll_enq(
 
 /// Takes the first thread of a queue.
 #[unsafe(no_mangle)]
-pub extern "C" fn mc2_poll_deq(
-    caller: &mut Handle<Content>,
-    answered: &mut Answered,
-    looks: &mut u64,
-) -> u32
+pub extern "C" fn mc2_poll_deq(caller: &mut Handle, answered: &mut Answered, looks: &mut u64) -> u32
     ensures { ReportsCallOf (Queue queue.Deq) (content_of caller.old) (answered.old, looks.old) result (content_of caller.new) (answered.new, looks.new) }
 {
     call_of(caller, KCall::Queue(QueueCall::Deq), answered, looks)
@@ -47,7 +43,7 @@ pub extern "C" fn mc2_poll_deq(
 /// Puts the thread at the end of the ready list.
 #[unsafe(no_mangle)]
 pub extern "C" fn mc2_poll_ready(
-    caller: &mut Handle<Content>,
+    caller: &mut Handle,
     thread: u32,
     answered: &mut Answered,
     looks: &mut u64,
@@ -65,7 +61,7 @@ pub extern "C" fn mc2_poll_ready(
 /// Takes the first ready thread.
 #[unsafe(no_mangle)]
 pub extern "C" fn mc2_poll_next(
-    caller: &mut Handle<Content>,
+    caller: &mut Handle,
     answered: &mut Answered,
     looks: &mut u64,
 ) -> u32

@@ -1,7 +1,7 @@
-//! The content of a cell's handle, and effects on it.
+//! The content of a handle, and what is done with a cell there.
 
 ghost use Rattle.std.specs.Prelude.{◌≡◌, ◌↔◌, Err};
-ghost use Rattle.cell_callers.specs.CellContents.{IsOpenedBy, IsBadOpening, IsNewCallerIn, IsOwn, IsReturnedTo, IsClosedBy, step_of};
+ghost use Rattle.cell_callers.specs.CellContents.{IsOpenedBy, IsBadOpening, IsNewCallerIn, IsOwn, IsReturnedTo, IsClosedBy, step_of, may_be_freed};
 
 use crate::cell_lifetime::{NoNewCaller, NotClosed};
 use crate::logged_step::{LoggedStep, step_at};
@@ -11,39 +11,41 @@ use event_log::Logged;
 use kernel_object::KernelObject;
 use std::alloc::Global;
 
-/// The content of a cell's handle.
-pub enum CellContent {
-    /// Nothing, as in a new handle.
+/// The content of a handle. It can't be dropped.
+pub enum HandleContent {
+    /// Nothing: a new handle, or one whose caller was returned.
     Empty,
     /// An open cell.
-    Open(OpenCell<KernelObject>),
+    Cell(OpenCell<KernelObject>),
+    /// A caller of a cell.
+    Caller(Caller<KernelObject>),
     /// The object of a closed cell, with its log.
-    Closed(Logged<KernelObject>),
+    Ended(Logged<KernelObject>),
 }
 
-impl CellContent {
+impl HandleContent {
     /// Opens a new cell, if the handle is empty.
-    pub fn open(self, alloc: Global, opening: &Opening) -> (CellContent, Result<(), NotOpened>)
+    pub fn open(self, alloc: Global, opening: &Opening) -> (HandleContent, Result<(), NotOpened>)
         ensures opened { IsOpenedBy self opening.now result.1 result.0 }
         ensures judged { IsBadOpening self opening.now ↔ (result.1 ≡ Err NotOpened.BadOpening) }
     {
         match self {
-            CellContent::Empty => match open_cell(alloc, opening) {
-                Ok(cell) => (CellContent::Open(cell), Ok(())),
-                Err(why) => (CellContent::Empty, Err(why)),
+            HandleContent::Empty => match open_cell(alloc, opening) {
+                Ok(cell) => (HandleContent::Cell(cell), Ok(())),
+                Err(why) => (HandleContent::Empty, Err(why)),
             },
             other => (other, Err(NotOpened::NotEmpty)),
         }
     }
 
     /// Creates a caller of a cell that has a pass left.
-    pub fn new_caller(self) -> (CellContent, Result<Caller<KernelObject>, NoNewCaller>)
+    pub fn new_caller(self) -> (HandleContent, Result<Caller<KernelObject>, NoNewCaller>)
         ensures { IsNewCallerIn self result.1 result.0 }
     {
         match self {
-            CellContent::Open(cell) => {
+            HandleContent::Cell(cell) => {
                 let (cell, caller) = cell.new_caller();
-                (CellContent::Open(cell), caller)
+                (HandleContent::Cell(cell), caller)
             }
             other => (other, Err(NoNewCaller::NoneLeft)),
         }
@@ -53,27 +55,27 @@ impl CellContent {
     pub fn return_caller(
         self,
         caller: Caller<KernelObject>,
-    ) -> (CellContent, Option<Caller<KernelObject>>)
+    ) -> (HandleContent, Option<Caller<KernelObject>>)
         requires { IsOwn self caller }
         ensures { IsReturnedTo self caller result.1 result.0 }
     {
         match self {
-            CellContent::Open(cell) => {
+            HandleContent::Cell(cell) => {
                 let (cell, left) = cell.return_caller(caller);
-                (CellContent::Open(cell), left)
+                (HandleContent::Cell(cell), left)
             }
             other => (other, Some(caller)),
         }
     }
 
     /// Closes a cell, once all callers are returned.
-    pub fn close(self) -> (CellContent, Result<(), NotClosed>)
+    pub fn close(self) -> (HandleContent, Result<(), NotClosed>)
         ensures { IsClosedBy self result.1 result.0 }
     {
         match self {
-            CellContent::Open(cell) => match cell.close() {
-                Ok(logged) => (CellContent::Closed(logged), Ok(())),
-                Err((cell, why)) => (CellContent::Open(cell), Err(why)),
+            HandleContent::Cell(cell) => match cell.close() {
+                Ok(logged) => (HandleContent::Ended(logged), Ok(())),
+                Err((cell, why)) => (HandleContent::Cell(cell), Err(why)),
             },
             other => (other, Err(NotClosed::NotAllBack)),
         }
@@ -84,8 +86,18 @@ impl CellContent {
         ensures { result ≡ step_of self.now event step }
     {
         match self {
-            CellContent::Closed(logged) => step_at(logged.log(), event, step),
+            HandleContent::Ended(logged) => step_at(logged.log(), event, step),
             _ => None,
+        }
+    }
+
+    /// Whether it may be freed: it has no caller, or one that is idle.
+    pub fn is_free(&self) -> bool
+        ensures { result ≡ may_be_freed self.now }
+    {
+        match self {
+            HandleContent::Caller(caller) => caller.place.idle_cpu().is_some(),
+            _ => true,
         }
     }
 }
