@@ -44,20 +44,11 @@ impl<O: SeqObject> CallerPlace<O> {
         ensures of { IsPassOf cell.now result }
         ensures woken { IfSome (place_of cell.now self) (λ c. HasWoken O.SeqObject c result) }
     {
-        match self {
-            CallerPlace {
-                pass: Some(pass),
-                rested: None,
-                line: None,
-            } => pass,
-            CallerPlace {
-                pass: None,
-                rested: Some(rested),
-                line: None,
-            } => match cell {
-                AnyCell::Mcs(cell) => cell.wake(rested),
-                AnyCell::Ticket(_) => unreachable!(),
-            },
+        let CallerPlace { pass, rested, line } = self;
+        let None = line else { unreachable!() };
+        match (pass, rested, cell) {
+            (Some(pass), None, _) => pass,
+            (None, Some(rested), AnyCell::Mcs(cell)) => cell.wake(rested),
             _ => unreachable!(),
         }
     }
