@@ -277,37 +277,13 @@ static inline void mc2_priv_begin(struct mc2_caller *caller) {
     mc2_throttle(caller->waiters);
 }
 
-// Internal: a whole call without waiting, by the function of its name.
-static inline uint32_t mc2_priv_poll(struct mc2_caller *caller, struct mc2_call call, struct mc2_reply *reply, uint64_t *looks) {
-    switch (call.word) {
-    case MC2_ENQ: return mc2_poll_enq(caller, call.first, reply, looks);
-    case MC2_DEQ: return mc2_poll_deq(caller, reply, looks);
-    case MC2_REMOVE: return mc2_poll_remove(caller, call.first, reply, looks);
-    case MC2_LEN: return mc2_poll_len(caller, reply, looks);
-    case MC2_ALLOC: return mc2_poll_alloc(caller, call.first, reply, looks);
-    case MC2_FREE: return mc2_poll_free(caller, call.first, call.second, reply, looks);
-    case MC2_LEFT: return mc2_poll_left(caller, reply, looks);
-    case MC2_GET: return mc2_poll_get(caller, reply, looks);
-    case MC2_LEVEL: return mc2_poll_level(caller, reply, looks);
-    case MC2_READY: return mc2_poll_ready(caller, call.first, reply, looks);
-    case MC2_NEXT: return mc2_poll_next(caller, reply, looks);
-    case MC2_SLEEP: return mc2_poll_sleep(caller, call.first, call.second, reply, looks);
-    case MC2_WAKE: return mc2_poll_wake(caller, call.first, reply, looks);
-    case MC2_WAKEALL: return mc2_poll_wakeall(caller, call.first, reply, looks);
-    // by its number: a call that doesn't exist, such as one of a byte above 255
-    default:
-        return call.word == MC2_PUT && call.first <= 255 ? mc2_poll_put(caller, (uint8_t)call.first, reply, looks)
-                                                         : mc2_poll_call(caller, &call, reply, looks);
-    }
-}
-
 // Internal: ends a call whose first attempt had this result.
 static inline uint32_t mc2_priv_end(struct mc2_caller *caller, uint32_t word, uint32_t first, uint32_t second,
                                     struct mc2_reply *reply, uint32_t result) {
     return result == MC2_DONE ? result : mc2_priv_call_slow(caller, mc2_call_of(word, first, second), reply, NULL, NULL, result);
 }
 
-// Internal: a whole call by its name; `poll` is its first attempt, by the function of that name.
+// Internal: a whole call; `poll` is its first attempt.
 #define MC2_PRIV_CALL(caller, word, first, second, reply, poll) \
     (mc2_priv_begin(caller), mc2_priv_end(caller, word, first, second, reply, MC2_IRQ_OFF(poll)))
 
@@ -318,7 +294,7 @@ static inline uint32_t mc2_priv_end(struct mc2_caller *caller, uint32_t word, ui
 static inline uint32_t mc2_cell_call(struct mc2_caller *caller, const struct mc2_call *call, struct mc2_reply *reply) {
     struct mc2_call asked = *call;
     return MC2_PRIV_CALL(caller, asked.word, asked.first, asked.second, reply,
-                         mc2_priv_poll(caller, asked, reply, &caller->looks));
+                         mc2_poll_call(caller, &asked, reply, &caller->looks));
 }
 
 // Performs 1 to 8 calls in order as one event, which ends with the first call whose reply refuses it.

@@ -121,23 +121,12 @@ uint32_t mc2_poll_batch(struct mc2_caller *caller, const struct mc2_batch *batch
 //          isn't idle, or isn't a caller.
 uint32_t mc2_poll_try_call(struct mc2_caller *caller, const struct mc2_call *call, struct mc2_reply *reply);
 
-// Each call of the four kinds of objects, as mc2_poll_call performs it. These are faster: the call is known when the library is
-// compiled. At an object of another kind the call is an event too, with the reply MC2_BADCALL.
+// The calls MC2_ENQ, MC2_DEQ, MC2_READY and MC2_NEXT, as mc2_poll_call performs them. These are faster: the call is known when the
+// library is compiled. At an object of another kind the call is an event too, with the reply MC2_BADCALL.
 uint32_t mc2_poll_enq(struct mc2_caller *caller, uint32_t thread, struct mc2_reply *reply, uint64_t *looks);
 uint32_t mc2_poll_deq(struct mc2_caller *caller, struct mc2_reply *reply, uint64_t *looks);
-uint32_t mc2_poll_remove(struct mc2_caller *caller, uint32_t thread, struct mc2_reply *reply, uint64_t *looks);
-uint32_t mc2_poll_len(struct mc2_caller *caller, struct mc2_reply *reply, uint64_t *looks);
-uint32_t mc2_poll_alloc(struct mc2_caller *caller, uint32_t owner, struct mc2_reply *reply, uint64_t *looks);
-uint32_t mc2_poll_free(struct mc2_caller *caller, uint32_t owner, uint32_t page, struct mc2_reply *reply, uint64_t *looks);
-uint32_t mc2_poll_left(struct mc2_caller *caller, struct mc2_reply *reply, uint64_t *looks);
-uint32_t mc2_poll_put(struct mc2_caller *caller, uint8_t byte, struct mc2_reply *reply, uint64_t *looks);
-uint32_t mc2_poll_get(struct mc2_caller *caller, struct mc2_reply *reply, uint64_t *looks);
-uint32_t mc2_poll_level(struct mc2_caller *caller, struct mc2_reply *reply, uint64_t *looks);
 uint32_t mc2_poll_ready(struct mc2_caller *caller, uint32_t thread, struct mc2_reply *reply, uint64_t *looks);
 uint32_t mc2_poll_next(struct mc2_caller *caller, struct mc2_reply *reply, uint64_t *looks);
-uint32_t mc2_poll_sleep(struct mc2_caller *caller, uint32_t channel, uint32_t thread, struct mc2_reply *reply, uint64_t *looks);
-uint32_t mc2_poll_wake(struct mc2_caller *caller, uint32_t channel, struct mc2_reply *reply, uint64_t *looks);
-uint32_t mc2_poll_wakeall(struct mc2_caller *caller, uint32_t channel, struct mc2_reply *reply, uint64_t *looks);
 
 #ifdef __cplusplus
 }
