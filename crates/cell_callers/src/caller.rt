@@ -3,6 +3,7 @@
 ghost use Rattle.std.specs.Prelude.{◌≡◌, IsSome, IfSome};
 ghost use Rattle.std_alloc.specs.Arc.{arc_value};
 ghost use Rattle.event_log.proofs.Props.{legal_props};
+ghost use Rattle.kernel_object.specs.contracts.object.KernelObjectSeqObject.TheImpl.{ghosts};
 ghost use Rattle.word_rule.specs.Polls.{IsAcquireStep, IsReleaseStep};
 ghost use Rattle.guarded_cell.specs.{AnyCallers.{IsCallerOf, state_of_caller}, Kinds.kind_of};
 ghost use Rattle.cell_callers.specs.{Callers.IsOne, Facts.of_props, Places.{place_of, Between}, Wholes.{IsApplied, IsTriedBy, IsTryCalled}};
@@ -10,6 +11,7 @@ ghost use Rattle.cell_callers.specs.{Callers.IsOne, Facts.of_props, Places.{plac
 use crate::{CallerPlace, TriedCall, apply, try_call, try_hold};
 use event_log::{NoRoom, SeqObject};
 use guarded_cell::AnyCell;
+use kernel_object::{KCall, KReply, KernelObject};
 use std::alloc::Global;
 use std::sync::Arc;
 use word_rule::{PolledCell, Progress};
@@ -23,11 +25,11 @@ pub struct Caller<O: SeqObject> {
     pub ghost one: { IfSome (place_of (arc_value cell) place) (λ s. IsOne (state_of_caller s).caller) } by { Prim.hlevel of_props },
 }
 
-impl<O: SeqObject> Caller<O> {
+impl Caller<KernelObject> {
     /// Performs its next step towards the lock.
     pub fn acquire_step(&mut self) -> Option<Progress>
         ensures cell { arc_value self.new.cell ≡ arc_value self.old.cell }
-        ensures step { Between (arc_value self.old.cell) self.old.place self.new.place (λ p q. IsAcquireStep O.SeqObject state_of_caller (kind_of (arc_value self.old.cell)) p result q) }
+        ensures step { Between (arc_value self.old.cell) self.old.place self.new.place (λ p q. IsAcquireStep ghosts state_of_caller (kind_of (arc_value self.old.cell)) p result q) }
     {
         let (cell, place) = (&*self.cell, &mut self.place);
         let (caller, report) = cell.acquire_step(place.take(cell));
@@ -38,7 +40,7 @@ impl<O: SeqObject> Caller<O> {
     /// Performs its next step to release the lock.
     pub fn release_step(&mut self) -> Option<Progress>
         ensures cell { arc_value self.new.cell ≡ arc_value self.old.cell }
-        ensures step { Between (arc_value self.old.cell) self.old.place self.new.place (λ p q. IsReleaseStep O.SeqObject state_of_caller (kind_of (arc_value self.old.cell)) p result q) }
+        ensures step { Between (arc_value self.old.cell) self.old.place self.new.place (λ p q. IsReleaseStep ghosts state_of_caller (kind_of (arc_value self.old.cell)) p result q) }
     {
         let (cell, place) = (&*self.cell, &mut self.place);
         let (caller, report) = cell.release_step(place.take(cell));
@@ -49,7 +51,7 @@ impl<O: SeqObject> Caller<O> {
     /// Tries to acquire the lock.
     pub fn try_hold(&mut self) -> Option<bool>
         ensures cell { arc_value self.new.cell ≡ arc_value self.old.cell }
-        ensures tried { Between (arc_value self.old.cell) self.old.place self.new.place (λ p q. IsTriedBy O.SeqObject (arc_value self.old.cell) p result q) }
+        ensures tried { Between (arc_value self.old.cell) self.old.place self.new.place (λ p q. IsTriedBy ghosts (arc_value self.old.cell) p result q) }
     {
         let (cell, place) = (&*self.cell, &mut self.place);
         let (caller, report) = try_hold(cell, place.take(cell));
@@ -58,9 +60,9 @@ impl<O: SeqObject> Caller<O> {
     }
 
     /// Does a call under its hold.
-    pub fn apply(&mut self, asked: &O::Call) -> Option<Result<O::Reply, NoRoom>>
+    pub fn apply(&mut self, asked: &KCall) -> Option<Result<KReply, NoRoom>>
         ensures cell { arc_value self.new.cell ≡ arc_value self.old.cell }
-        ensures applied { Between (arc_value self.old.cell) self.old.place self.new.place (λ p q. IsApplied O.SeqObject (arc_value self.old.cell) p asked.now result q) }
+        ensures applied { Between (arc_value self.old.cell) self.old.place self.new.place (λ p q. IsApplied ghosts (arc_value self.old.cell) p asked.now result q) }
     {
         let (cell, place) = (&*self.cell, &mut self.place);
         let (caller, report) = apply(cell, place.take(cell), asked);
@@ -69,9 +71,9 @@ impl<O: SeqObject> Caller<O> {
     }
 
     /// Does a whole call if no one holds the lock or is in line for it.
-    pub fn try_call(&mut self, asked: &O::Call) -> TriedCall<Result<O::Reply, NoRoom>>
+    pub fn try_call(&mut self, asked: &KCall) -> TriedCall<Result<KReply, NoRoom>>
         ensures cell { arc_value self.new.cell ≡ arc_value self.old.cell }
-        ensures called { Between (arc_value self.old.cell) self.old.place self.new.place (λ p q. IsTryCalled O.SeqObject (arc_value self.old.cell) p asked.now result q) }
+        ensures called { Between (arc_value self.old.cell) self.old.place self.new.place (λ p q. IsTryCalled ghosts (arc_value self.old.cell) p asked.now result q) }
     {
         let (cell, place) = (&*self.cell, &mut self.place);
         let (caller, report) = try_call(cell, place.take(cell), asked);

@@ -127,27 +127,78 @@ pub fn count_look(looked: bool, looks: &mut u64)
     }
 }
 
-/// The result of a whole call. The reply is written if it was done, and the look is counted.
-#[inline]
-pub fn call_code(
-    whole: Whole<Result<KReply, NoRoom>>,
-    answered: &mut Answered,
-    looks: &mut u64,
-) -> u32
-    ensures code { (result, answered.new) ≡ call_code answered.old whole }
-    ensures looks { looks.new ≡ looks_after (has_looked whole) looks.old }
-{
-    let (done, looked, done_as, full_as) = match whole {
-        Whole::Done(done, looked) => (done, looked, DONE, LOG_FULL),
-        Whole::Kept(done, looked) => (done, looked, DONE_HELD, LOG_FULL_HELD),
-        Whole::Waits => {
-            count_look(true, looks);
-            return AGAIN;
+/// The result of a whole call: its number, its reply if it was done, and whether the caller has looked.
+#[derive(Clone, Copy, Debug, PartialEq, Eq, Drop)]
+pub struct Returned {
+    pub code: u32,
+    pub answered: Option<Answered>,
+    pub looked: bool,
+}
+
+impl Returned {
+    /// Writes the reply if the call was done, and counts the look. Returns the number.
+    #[inline]
+    pub fn write(self, answered: &mut Answered, looks: &mut u64) -> u32
+        ensures code { result ≡ self.code }
+        ensures answered { answered.new ≡ written self.answered answered.old }
+        ensures looks { looks.new ≡ looks_after self.looked looks.old }
+    {
+        if let Some(said) = self.answered {
+            *answered = said;
         }
-        Whole::Refused => return REFUSED,
-    };
-    count_look(looked, looks);
-    answer_code(done, done_as, full_as, answered)
+        count_look(self.looked, looks);
+        self.code
+    }
+}
+
+/// The result of a call that was done, or found the log full, and has released the lock.
+#[inline]
+pub fn returned_done(done: Result<KReply, NoRoom>, looked: bool) -> Returned
+    ensures { result ≡ returned_of (whole.Done done looked) }
+{
+    match done {
+        Ok(reply) => Returned {
+            code: DONE,
+            answered: Some(reply_code(reply)),
+            looked,
+        },
+        Err(NoRoom) => Returned {
+            code: LOG_FULL,
+            answered: None,
+            looked,
+        },
+    }
+}
+
+/// The same of a call whose lock isn't released yet.
+pub fn returned_kept(returned: Returned) -> Returned
+    ensures { result ≡ kept_of returned }
+{
+    Returned {
+        code: kept_code(returned.code),
+        answered: returned.answered,
+        looked: returned.looked,
+    }
+}
+
+/// The result of a whole call.
+pub fn returned_of(whole: Whole<Result<KReply, NoRoom>>) -> Returned
+    ensures { result ≡ returned_of whole }
+{
+    match whole {
+        Whole::Done(done, looked) => returned_done(done, looked),
+        Whole::Kept(done, looked) => returned_kept(returned_done(done, looked)),
+        Whole::Waits => Returned {
+            code: AGAIN,
+            answered: None,
+            looked: true,
+        },
+        Whole::Refused => Returned {
+            code: REFUSED,
+            answered: None,
+            looked: false,
+        },
+    }
 }
 
 /// The result of the steps that were done, whose replies are written.

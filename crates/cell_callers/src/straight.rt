@@ -1,5 +1,5 @@
 //! The path of most calls: an idle caller that meets nobody acquires the lock, does the call, and releases the lock. Rare cases are
-//! in functions of their own, which return the result themselves, so that this path needn't clear their locals.
+//! in functions of their own, so that this path needn't clear their locals.
 
 ghost use Rattle.std.specs.Prelude.{◌≡◌, true, None, Some};
 ghost use Rattle.guarded_cell.specs.declared.cell.AnyCell.TheVariants.{Ticket, Mcs};
@@ -13,18 +13,17 @@ ghost use Rattle.word_rule.specs.{Mcs.Steps.IsPass, Passes.state_of_pass};
 ghost use Rattle.kernel_object.specs.contracts.object.KernelObjectSeqObject.TheImpl.{ghosts};
 ghost use Rattle.std_alloc.specs.Arc.{arc_value};
 
-use crate::applying::apply_held;
-use crate::call_numbers::Answered;
+use crate::applying::{apply_by, shared_apply_held};
 use crate::place::put_in;
-use crate::report_codes::{AGAIN, DONE, LOG_FULL, answer_code, call_code, count_look, kept_code};
-use crate::whole::call_polled;
+use crate::report_codes::{Returned, returned_done, returned_kept, returned_of};
+use crate::whole::{Whole, call_polled};
 use crate::{Caller, CallerPlace};
 use core::mem::replace;
 use guarded_cell::{AnyCaller, AnyCell, polled_mcs};
 use kernel_object::{KCall, KernelObject};
-use mcs_lock::{Behind, Entered, Leaving, McsCaller, McsCell, Passing};
+use mcs_lock::{Behind, Entered, Leaving, McsCaller, McsCell, Passing, Rested};
 use ticket_lock::{Drawn, TicketCaller, TicketCell};
-use word_rule::{Pass, PolledCell};
+use word_rule::{Hold, Pass, PolledCell};
 
 type Line = Option<AnyCaller<KernelObject>>;
 
@@ -35,31 +34,27 @@ fn go_on(
     cell: &AnyCell<KernelObject>,
     place: &mut CallerPlace<KernelObject>,
     call: KCall,
-    answered: &mut Answered,
-    looks: &mut u64,
-) -> u32
+) -> Returned
     requires { IsPlaceOf cell.now place.old }
     ensures place { IsPlaceOf cell.now place.new }
-    ensures reports { ReportsCalled cell.now call place.old (answered.old, looks.old) result place.new (answered.new, looks.new) }
+    ensures reports { ReportsCalled cell.now call place.old result place.new }
 {
     let polled = cell.poll_acquire(place.take(cell));
     let (caller, whole) = call_polled(cell, polled, &call);
     place.put(cell, caller);
-    call_code(whole, answered, looks)
+    returned_of(whole)
 }
 
 // After a failed look.
 #[cold]
 #[inline(never)]
-fn wait_drawn(line: &mut Line, drawn: Drawn<KernelObject>, looks: &mut u64) -> u32
+fn wait_drawn(line: &mut Line, drawn: Drawn<KernelObject>) -> Returned
     requires { line.old ≡ None }
     ensures line { line.new ≡ Some (callers.Ticket (at_ticket.Drawn drawn)) }
-    ensures looks { looks.new ≡ looks_after true looks.old }
-    ensures reported { result ≡ AGAIN }
+    ensures reported { result ≡ returned_of whole.Waits }
 {
     put_in(line, AnyCaller::Ticket(TicketCaller::Drawn(drawn)));
-    count_look(true, looks);
-    AGAIN
+    returned_of(Whole::Waits)
 }
 
 // A caller with another before it in the queue arms itself, links itself, and looks.
@@ -70,33 +65,31 @@ fn come_behind(
     place: &mut CallerPlace<KernelObject>,
     behind: Behind<KernelObject>,
     call: KCall,
-    answered: &mut Answered,
-    looks: &mut u64,
-) -> u32
+) -> Returned
     requires cell { IfMcs any.now (λ c. IsBehindOf c behind) }
     requires one { IsOne (state_of_behind behind).caller }
     requires away { IsAway place.old }
     ensures place { IsPlaceOf any.now place.new }
-    ensures reports { (p : KernelCaller) → GoesBehind any.now p behind → ReportsCalledAt any.now call p (answered.old, looks.old) result place.new (answered.new, looks.new) }
+    ensures reports { (p : KernelAnyCaller) → GoesBehind any.now p behind → ReportsCalledAt any.now call p result place.new }
 {
     let AnyCell::Mcs(cell) = any else {
         unreachable!()
     };
     let (caller, whole) = call_polled(any, polled_mcs(cell.line_up(behind)), &call);
     place.put(any, caller);
-    call_code(whole, answered, looks)
+    returned_of(whole)
 }
 
 // It still holds the lock, as its successor has to link itself first.
 #[cold]
 #[inline(never)]
-fn keep(line: &mut Line, leaving: Leaving<KernelObject>, reported: u32) -> u32
+fn keep(line: &mut Line, leaving: Leaving<KernelObject>, returned: Returned) -> Returned
     requires { line.old ≡ None }
     ensures line { line.new ≡ Some (callers.Mcs (at_mcs.Leaving leaving)) }
-    ensures reported { result ≡ kept_code reported }
+    ensures reported { result ≡ kept_of returned }
 {
     put_in(line, AnyCaller::Mcs(McsCaller::Leaving(leaving)));
-    kept_code(reported)
+    returned_kept(returned)
 }
 
 // A function of its own, since there is seldom a successor.
@@ -116,57 +109,70 @@ fn straight_ticket(
     pass: Pass<KernelObject>,
     place: &mut CallerPlace<KernelObject>,
     call: KCall,
-    answered: &mut Answered,
-    looks: &mut u64,
-) -> u32
+    is_named: bool,
+) -> Returned
     requires pass { IsTicketPassOf cell.now pass }
     requires one { IsOne (state_of_pass pass).caller }
     requires away { IsAway place.old }
     ensures place { IsPlaceOf (Ticket cell.now) place.new }
-    ensures reports { ReportsCalledAt (Ticket cell.now) call (callers.Ticket (at_ticket.Idle pass)) (answered.old, looks.old) result place.new (answered.new, looks.new) }
+    ensures reports { ReportsCalledAt (Ticket cell.now) call (callers.Ticket (at_ticket.Idle pass)) result place.new }
 {
     match cell.arrive(pass) {
         Ok(mut hold) => {
-            let reported = answer_code(apply_held(&mut hold, &call), DONE, LOG_FULL, answered);
+            let done = apply_by(&mut hold, &call, is_named);
             place.pass = Some(cell.serve(hold));
-            count_look(true, looks);
-            reported
+            returned_done(done, true)
         }
-        Err(drawn) => wait_drawn(&mut place.line, drawn, looks),
+        Err(drawn) => wait_drawn(&mut place.line, drawn),
     }
 }
 
-// From the entry into the queue.
+// A holder of an MCS lock that has done its call releases the lock.
 #[inline]
-fn straight_mcs(
-    any: &AnyCell<KernelObject>,
+fn leave_mcs(
     cell: &McsCell<KernelObject>,
-    entered: Entered<KernelObject>,
+    hold: Hold<KernelObject>,
     place: &mut CallerPlace<KernelObject>,
-    call: KCall,
-    answered: &mut Answered,
-    looks: &mut u64,
-) -> u32
-    requires cell { any.now ≡ Mcs cell.now }
-    requires of { IsEnteredOf cell.now entered }
-    requires one { OneEntered entered }
+    returned: Returned,
+) -> Returned
+    requires hold { IsMcsHoldOf cell.now hold }
+    requires one { IsOne (state_of_hold hold).caller }
     requires away { IsAway place.old }
     ensures place { IsPlaceOf (Mcs cell.now) place.new }
-    ensures reports { (p : KernelCaller) → HasEntered (Mcs cell.now) p entered → ReportsCalledAt (Mcs cell.now) call p (answered.old, looks.old) result place.new (answered.new, looks.new) }
+    ensures left { HasLeft (Mcs cell.now) hold returned result place.new }
 {
-    let mut hold = match entered {
-        Entered::Hold(hold) => hold,
-        Entered::Behind(behind) => return come_behind(any, place, behind, call, answered, looks),
-    };
-    let reported = answer_code(apply_held(&mut hold, &call), DONE, LOG_FULL, answered);
     match cell.see(hold) {
         Ok(passing) => place.pass = Some(pass_on(cell, passing)),
         Err(alone) => match cell.rest(alone) {
             Ok(rested) => put_in(&mut place.rested, rested),
-            Err(leaving) => return keep(&mut place.line, leaving, reported),
+            Err(leaving) => return keep(&mut place.line, leaving, returned),
         },
     }
-    reported
+    returned
+}
+
+#[inline]
+fn straight_mcs(
+    any: &AnyCell<KernelObject>,
+    cell: &McsCell<KernelObject>,
+    rested: Rested<KernelObject>,
+    place: &mut CallerPlace<KernelObject>,
+    call: KCall,
+    is_named: bool,
+) -> Returned
+    requires cell { any.now ≡ Mcs cell.now }
+    requires rested { IsRestedOf cell.now rested }
+    requires one { IsOne (state_of_rested rested).caller }
+    requires away { IsAway place.old }
+    ensures place { IsPlaceOf (Mcs cell.now) place.new }
+    ensures reports { ReportsCalledAt (Mcs cell.now) call (callers.Mcs (at_mcs.Rested rested)) result place.new }
+{
+    let mut hold = match cell.arrive(rested) {
+        Entered::Hold(hold) => hold,
+        Entered::Behind(behind) => return come_behind(any, place, behind, call),
+    };
+    let done = apply_by(&mut hold, &call, is_named);
+    leave_mcs(cell, hold, place, returned_done(done, false))
 }
 
 // A caller of an MCS lock whose `next` may not be clear, as its last call had a successor.
@@ -176,49 +182,41 @@ fn from_pass(
     cell: &McsCell<KernelObject>,
     place: &mut CallerPlace<KernelObject>,
     call: KCall,
-    answered: &mut Answered,
-    looks: &mut u64,
-) -> u32
+) -> Returned
     requires cell { any.now ≡ Mcs cell.now }
     requires place { IsPlaceOf (Mcs cell.now) place.old }
     requires rested { place.old.rested ≡ None }
     ensures place { IsPlaceOf (Mcs cell.now) place.new }
-    ensures reports { ReportsCalled (Mcs cell.now) call place.old (answered.old, looks.old) result place.new (answered.new, looks.new) }
+    ensures reports { ReportsCalled (Mcs cell.now) call place.old result place.new }
 {
-    match replace(&mut place.pass, None) {
-        Some(pass) => {
-            let entered = cell.enter(cell.clear(pass));
-            straight_mcs(any, cell, entered, place, call, answered, looks)
-        }
-        None => go_on(any, place, call, answered, looks),
-    }
+    let Some(pass) = replace(&mut place.pass, None) else {
+        return go_on(any, place, call);
+    };
+    let mut hold = match cell.enter(cell.clear(pass)) {
+        Entered::Hold(hold) => hold,
+        Entered::Behind(behind) => return come_behind(any, place, behind, call),
+    };
+    let done = shared_apply_held(&mut hold, &call);
+    leave_mcs(cell, hold, place, returned_done(done, false))
 }
 
-/// Does a whole call, as far as it comes without waiting, and returns its result. The reply is written if it was done, and the look
-/// is counted.
+/// Does a whole call, as far as it comes without waiting. A call that is known when this is compiled is named: no code for other
+/// calls is executed then.
 #[inline]
-pub fn call_straight(
-    caller: &mut Caller<KernelObject>,
-    call: KCall,
-    answered: &mut Answered,
-    looks: &mut u64,
-) -> u32
+pub fn call_straight(caller: &mut Caller<KernelObject>, call: KCall, is_named: bool) -> Returned
     ensures cell { arc_value caller.new.cell ≡ arc_value caller.old.cell }
-    ensures reports { ReportsCalled (arc_value caller.old.cell) call caller.old.place (answered.old, looks.old) result caller.new.place (answered.new, looks.new) }
+    ensures reports { ReportsCalled (arc_value caller.old.cell) call caller.old.place result caller.new.place }
 {
     let any = &*caller.cell;
     let place = &mut caller.place;
     match any {
         AnyCell::Ticket(cell) => match replace(&mut place.pass, None) {
-            Some(pass) => straight_ticket(cell, pass, place, call, answered, looks),
-            None => go_on(any, place, call, answered, looks),
+            Some(pass) => straight_ticket(cell, pass, place, call, is_named),
+            None => go_on(any, place, call),
         },
         AnyCell::Mcs(cell) => match replace(&mut place.rested, None) {
-            Some(rested) => {
-                let entered = cell.arrive(rested);
-                straight_mcs(any, cell, entered, place, call, answered, looks)
-            }
-            None => from_pass(any, cell, place, call, answered, looks),
+            Some(rested) => straight_mcs(any, cell, rested, place, call, is_named),
+            None => from_pass(any, cell, place, call),
         },
     }
 }
