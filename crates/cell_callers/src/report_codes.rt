@@ -9,7 +9,7 @@ use crate::call_numbers::{Answered, reply_code};
 use crate::opening::NotOpened;
 use event_log::{NoRoom, Steps};
 use kernel_object::{KReply, KernelObject};
-use word_rule::Progress;
+use word_rule::{Progress, next_ticket, served_ticket, word_with};
 
 /// Success.
 pub const DONE: u32 = 0;
@@ -127,57 +127,63 @@ pub fn count_look(looked: bool, looks: &mut u64)
     }
 }
 
-/// The result of a whole call: its number, its reply if it was done, and whether the caller has looked.
+// Added to the number of a result if the caller has looked: above each of them.
+const LOOKED: u32 = 16;
+
+/// The result of a whole call, in two numbers, which are returned in registers: its number, and 16 more if the caller has looked;
+/// and its reply if it was done.
 #[derive(Clone, Copy, Debug, PartialEq, Eq, Drop)]
 pub struct Returned {
-    pub code: u32,
-    pub answered: Option<Answered>,
-    pub looked: bool,
+    pub number: u32,
+    pub reply: u64,
 }
 
 impl Returned {
-    /// Writes the reply if the call was done, and counts the look. Returns the number.
+    /// Writes the reply if the call was done, and counts the look. Returns the number of the result.
     #[inline]
     pub fn write(self, answered: &mut Answered, looks: &mut u64) -> u32
-        ensures code { result ≡ self.code }
-        ensures answered { answered.new ≡ written self.answered answered.old }
-        ensures looks { looks.new ≡ looks_after self.looked looks.old }
+        ensures { (reported : Whole (Result KReply NoRoom)) → self ≡ returned_of reported → IsReportOf reported (answered.old, looks.old) result (answered.new, looks.new) }
     {
-        if let Some(said) = self.answered {
-            *answered = said;
+        let code = self.number % LOOKED;
+        if code == DONE || code == DONE_HELD {
+            *answered = Answered {
+                word: served_ticket(self.reply),
+                number: next_ticket(self.reply),
+            };
         }
-        count_look(self.looked, looks);
-        self.code
+        count_look(self.number >= LOOKED, looks);
+        code
     }
 }
 
-/// The result of a call that was done, or found the log full, and has released the lock.
+/// The result with that number and reply.
 #[inline]
-pub fn returned_done(done: Result<KReply, NoRoom>, looked: bool) -> Returned
-    ensures { result ≡ returned_of (whole.Done done looked) }
+pub fn returned(code: u32, looked: bool, reply: u64) -> Returned
+    requires { code < 16 }
+    ensures number { result.number ≡ number_with code looked }
+    ensures reply { result.reply ≡ reply }
+{
+    let number = if looked { code + LOOKED } else { code };
+    Returned { number, reply }
+}
+
+/// The result of a call that was done, or found the log full.
+#[inline]
+pub fn returned_done(
+    done: Result<KReply, NoRoom>,
+    done_as: u32,
+    full_as: u32,
+    looked: bool,
+) -> Returned
+    requires { (done_as < 16) × (full_as < 16) }
+    ensures { result ≡ returned_done done_as full_as done looked }
 {
     match done {
-        Ok(reply) => Returned {
-            code: DONE,
-            answered: Some(reply_code(reply)),
-            looked,
-        },
-        Err(NoRoom) => Returned {
-            code: LOG_FULL,
-            answered: None,
-            looked,
-        },
-    }
-}
-
-/// The same of a call whose lock isn't released yet.
-pub fn returned_kept(returned: Returned) -> Returned
-    ensures { result ≡ kept_of returned }
-{
-    Returned {
-        code: kept_code(returned.code),
-        answered: returned.answered,
-        looked: returned.looked,
+        Ok(reply) => {
+            let Answered { word, number } = reply_code(reply);
+            returned(done_as, looked, word_with(number, word))
+        }
+        Err(NoRoom) => returned(full_as, looked, 0),
     }
 }
 
@@ -186,18 +192,10 @@ pub fn returned_of(whole: Whole<Result<KReply, NoRoom>>) -> Returned
     ensures { result ≡ returned_of whole }
 {
     match whole {
-        Whole::Done(done, looked) => returned_done(done, looked),
-        Whole::Kept(done, looked) => returned_kept(returned_done(done, looked)),
-        Whole::Waits => Returned {
-            code: AGAIN,
-            answered: None,
-            looked: true,
-        },
-        Whole::Refused => Returned {
-            code: REFUSED,
-            answered: None,
-            looked: false,
-        },
+        Whole::Done(done, looked) => returned_done(done, DONE, LOG_FULL, looked),
+        Whole::Kept(done, looked) => returned_done(done, DONE_HELD, LOG_FULL_HELD, looked),
+        Whole::Waits => returned(AGAIN, true, 0),
+        Whole::Refused => returned(REFUSED, false, 0),
     }
 }
 

@@ -15,7 +15,7 @@ ghost use Rattle.std_alloc.specs.Arc.{arc_value};
 
 use crate::applying::{apply_by, shared_apply_held};
 use crate::place::put_in;
-use crate::report_codes::{Returned, returned_done, returned_kept, returned_of};
+use crate::report_codes::{DONE, LOG_FULL, Returned, kept_code, returned_done, returned_of};
 use crate::whole::{Whole, call_polled};
 use crate::{Caller, CallerPlace};
 use core::mem::replace;
@@ -89,7 +89,10 @@ fn keep(line: &mut Line, leaving: Leaving<KernelObject>, returned: Returned) -> 
     ensures reported { result ≡ kept_of returned }
 {
     put_in(line, AnyCaller::Mcs(McsCaller::Leaving(leaving)));
-    returned_kept(returned)
+    Returned {
+        number: kept_code(returned.number),
+        reply: returned.reply,
+    }
 }
 
 // A function of its own, since there is seldom a successor.
@@ -121,7 +124,7 @@ fn straight_ticket(
         Ok(mut hold) => {
             let done = apply_by(&mut hold, &call, is_named);
             place.pass = Some(cell.serve(hold));
-            returned_done(done, true)
+            returned_done(done, DONE, LOG_FULL, true)
         }
         Err(drawn) => wait_drawn(&mut place.line, drawn),
     }
@@ -172,7 +175,12 @@ fn straight_mcs(
         Entered::Behind(behind) => return come_behind(any, place, behind, call),
     };
     let done = apply_by(&mut hold, &call, is_named);
-    leave_mcs(cell, hold, place, returned_done(done, false))
+    leave_mcs(
+        cell,
+        hold,
+        place,
+        returned_done(done, DONE, LOG_FULL, false),
+    )
 }
 
 // A caller of an MCS lock whose `next` may not be clear, as its last call had a successor.
@@ -197,7 +205,12 @@ fn from_pass(
         Entered::Behind(behind) => return come_behind(any, place, behind, call),
     };
     let done = shared_apply_held(&mut hold, &call);
-    leave_mcs(cell, hold, place, returned_done(done, false))
+    leave_mcs(
+        cell,
+        hold,
+        place,
+        returned_done(done, DONE, LOG_FULL, false),
+    )
 }
 
 /// Does a whole call, as far as it comes without waiting. A call that is known when this is compiled is named: no code for other
