@@ -32,24 +32,6 @@ pub fn shared_apply_held<O: SeqObject>(
     apply_held(hold, asked)
 }
 
-/// The same, in its place for a call that is named.
-#[inline]
-pub fn apply_by<O: SeqObject>(
-    hold: &mut Hold<O>,
-    asked: &O::Call,
-    is_named: bool,
-) -> Result<O::Reply, NoRoom>
-    ensures of { (cell : AnyCell O O.Params O.Call O.Reply) → IsHoldOf cell hold.old → IsHoldOf cell hold.new }
-    ensures caller { (state_of_hold hold.new).caller ≡ (state_of_hold hold.old).caller }
-    ensures applied { IsHeldApply O.SeqObject hold.old asked.now result hold.new }
-{
-    if is_named {
-        apply_held(hold, asked)
-    } else {
-        shared_apply_held(hold, asked)
-    }
-}
-
 /// Does the call as one event, unless the log is full. A caller that doesn't hold the lock does nothing.
 pub fn apply<O: SeqObject>(
     cell: &AnyCell<O>,

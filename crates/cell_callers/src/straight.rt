@@ -13,7 +13,7 @@ ghost use Rattle.word_rule.specs.{Mcs.Steps.IsPass, Passes.state_of_pass};
 ghost use Rattle.kernel_object.specs.contracts.object.KernelObjectSeqObject.TheImpl.{ghosts};
 ghost use Rattle.std_alloc.specs.Arc.{arc_value};
 
-use crate::applying::{apply_by, shared_apply_held};
+use crate::applying::apply_held;
 use crate::place::put_in;
 use crate::report_codes::{DONE, LOG_FULL, Returned, kept_code, returned_done, returned_of};
 use crate::whole::{Whole, call_polled};
@@ -106,6 +106,21 @@ fn pass_on(cell: &McsCell<KernelObject>, passing: Passing<KernelObject>) -> Pass
     cell.pass_on(passing)
 }
 
+// Does the call under the hold, once in the library for the calls that aren't named.
+#[inline(never)]
+fn shared_done(hold: &mut Hold<KernelObject>, call: &KCall, looked: bool) -> Returned {
+    returned_done(apply_held(hold, call), DONE, LOG_FULL, looked)
+}
+
+#[inline]
+fn done_by(hold: &mut Hold<KernelObject>, call: &KCall, is_named: bool, looked: bool) -> Returned {
+    if is_named {
+        returned_done(apply_held(hold, call), DONE, LOG_FULL, looked)
+    } else {
+        shared_done(hold, call, looked)
+    }
+}
+
 #[inline]
 fn straight_ticket(
     cell: &TicketCell<KernelObject>,
@@ -122,9 +137,9 @@ fn straight_ticket(
 {
     match cell.arrive(pass) {
         Ok(mut hold) => {
-            let done = apply_by(&mut hold, &call, is_named);
+            let returned = done_by(&mut hold, &call, is_named, true);
             place.pass = Some(cell.serve(hold));
-            returned_done(done, DONE, LOG_FULL, true)
+            returned
         }
         Err(drawn) => wait_drawn(&mut place.line, drawn),
     }

@@ -5,9 +5,8 @@ ghost use Rattle.cells.specs.Exports.{content_of, ReportsAcquireStep, ReportsRel
 use arrayvec::ArrayVec;
 use cell_callers::{
     Answered, Asked, BUSY, Batch, DONE, DONE_HELD, Handle, HandleContent, LOG_FULL, LOG_FULL_HELD,
-    NOT_FOUND, REFUSED, Replies, TriedCall, Whole, at_content, batch_in_place, call_straight,
-    called_of, progress_code, returned_of, shared_answer_code, shared_called_of, try_code,
-    write_calls,
+    NOT_FOUND, REFUSED, Replies, TriedCall, at_content, batch_in_place, call_straight, called_of,
+    progress_code, returned, shared_answer_code, shared_called_of, try_code, write_calls,
 };
 use event_log::MOST_CALLS;
 use kernel_object::KCall;
@@ -85,7 +84,7 @@ pub fn call_of(
 {
     let returned = at_content(caller, call, |content, call| match content {
         HandleContent::Caller(caller) => call_straight(caller, call, is_named),
-        _ => returned_of(Whole::Refused),
+        _ => returned(REFUSED, false, 0),
     });
     returned.write(answered, looks)
 }
