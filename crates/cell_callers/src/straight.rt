@@ -189,13 +189,8 @@ fn straight_mcs(
         Entered::Hold(hold) => hold,
         Entered::Behind(behind) => return come_behind(any, place, behind, call),
     };
-    let done = apply_by(&mut hold, &call, is_named);
-    leave_mcs(
-        cell,
-        hold,
-        place,
-        returned_done(done, DONE, LOG_FULL, false),
-    )
+    let returned = done_by(&mut hold, &call, is_named, false);
+    leave_mcs(cell, hold, place, returned)
 }
 
 // A caller of an MCS lock whose `next` may not be clear, as its last call had a successor.
@@ -219,13 +214,8 @@ fn from_pass(
         Entered::Hold(hold) => hold,
         Entered::Behind(behind) => return come_behind(any, place, behind, call),
     };
-    let done = shared_apply_held(&mut hold, &call);
-    leave_mcs(
-        cell,
-        hold,
-        place,
-        returned_done(done, DONE, LOG_FULL, false),
-    )
+    let returned = shared_done(&mut hold, &call, false);
+    leave_mcs(cell, hold, place, returned)
 }
 
 /// Does a whole call, as far as it comes without waiting. A call that is known when this is compiled is named: no code for other
