@@ -40,8 +40,8 @@ pub use pinned_codes::shows_codes;
 pub use place::CallerPlace;
 pub use report_codes::{
     ACQUIRED, ACQUIRED_BY_LOOK, AGAIN, BAD_PARAM, BUSY, DONE, DONE_HELD, LOG_FULL, LOG_FULL_HELD,
-    NO_MEMORY, NOT_FOUND, REFUSED, RELEASED, Returned, STEPPED, opening_code, progress_code,
-    returned, shared_answer_code, try_code,
+    NO_MEMORY, NOT_FOUND, REFUSED, RELEASED, STEPPED, opening_code, progress_code,
+    shared_answer_code, try_code,
 };
 pub use straight::call_straight;
 pub use whole::{TriedCall, Whole, try_call};

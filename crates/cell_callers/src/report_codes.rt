@@ -9,7 +9,7 @@ use crate::call_numbers::{Answered, reply_code};
 use crate::opening::NotOpened;
 use event_log::{NoRoom, Steps};
 use kernel_object::{KReply, KernelObject};
-use word_rule::{Progress, next_ticket, served_ticket, word_with};
+use word_rule::Progress;
 
 /// Success.
 pub const DONE: u32 = 0;
@@ -127,76 +127,27 @@ pub fn count_look(looked: bool, looks: &mut u64)
     }
 }
 
-// Added to the number of a result if the caller has looked: above each of them.
-const LOOKED: u32 = 16;
-
-/// The result of a whole call, in two numbers, which are returned in registers: its number, and 16 more if the caller has looked;
-/// and its reply if it was done.
-#[derive(Clone, Copy, Debug, PartialEq, Eq, Drop)]
-pub struct Returned {
-    pub number: u32,
-    pub reply: u64,
-}
-
-impl Returned {
-    /// Writes the reply if the call was done, and counts the look. Returns the number of the result.
-    #[inline]
-    pub fn write(self, answered: &mut Answered, looks: &mut u64) -> u32
-        ensures { (reported : Whole (Result KReply NoRoom)) → self ≡ returned_of reported → IsReportOf reported (answered.old, looks.old) result (answered.new, looks.new) }
-    {
-        let code = self.number % LOOKED;
-        if code == DONE || code == DONE_HELD {
-            *answered = Answered {
-                word: served_ticket(self.reply),
-                number: next_ticket(self.reply),
-            };
-        }
-        count_look(self.number >= LOOKED, looks);
-        code
-    }
-}
-
-/// The result with that number and reply.
+/// The result of a whole call. The reply is written if it was done, and the look is counted.
 #[inline]
-pub fn returned(code: u32, looked: bool, reply: u64) -> Returned
-    requires { code < 16 }
-    ensures number { result.number ≡ number_with code looked }
-    ensures reply { result.reply ≡ reply }
+pub fn call_code(
+    whole: Whole<Result<KReply, NoRoom>>,
+    answered: &mut Answered,
+    looks: &mut u64,
+) -> u32
+    ensures code { (result, answered.new) ≡ call_code answered.old whole }
+    ensures looks { looks.new ≡ looks_after (has_looked whole) looks.old }
 {
-    let number = if looked { code + LOOKED } else { code };
-    Returned { number, reply }
-}
-
-/// The result of a call that was done, or found the log full.
-#[inline]
-pub fn returned_done(
-    done: Result<KReply, NoRoom>,
-    done_as: u32,
-    full_as: u32,
-    looked: bool,
-) -> Returned
-    requires { (done_as < 16) × (full_as < 16) }
-    ensures { result ≡ returned_done done_as full_as done looked }
-{
-    match done {
-        Ok(reply) => {
-            let Answered { word, number } = reply_code(reply);
-            returned(done_as, looked, word_with(number, word))
+    let (done, looked, done_as, full_as) = match whole {
+        Whole::Done(done, looked) => (done, looked, DONE, LOG_FULL),
+        Whole::Kept(done, looked) => (done, looked, DONE_HELD, LOG_FULL_HELD),
+        Whole::Waits => {
+            count_look(true, looks);
+            return AGAIN;
         }
-        Err(NoRoom) => returned(full_as, looked, 0),
-    }
-}
-
-/// The result of a whole call.
-pub fn returned_of(whole: Whole<Result<KReply, NoRoom>>) -> Returned
-    ensures { result ≡ returned_of whole }
-{
-    match whole {
-        Whole::Done(done, looked) => returned_done(done, DONE, LOG_FULL, looked),
-        Whole::Kept(done, looked) => returned_done(done, DONE_HELD, LOG_FULL_HELD, looked),
-        Whole::Waits => returned(AGAIN, true, 0),
-        Whole::Refused => returned(REFUSED, false, 0),
-    }
+        Whole::Refused => return REFUSED,
+    };
+    count_look(looked, looks);
+    answer_code(done, done_as, full_as, answered)
 }
 
 /// The result of the steps that were done, whose replies are written.

@@ -1,5 +1,5 @@
 //! The path of most calls: an idle caller that meets nobody acquires the lock, does the call, and releases the lock. Rare cases are
-//! in functions of their own, so that this path needn't clear their locals.
+//! in functions of their own, which return the result themselves, so that this path needn't clear their locals.
 
 ghost use Rattle.std.specs.Prelude.{◌≡◌, true, None, Some};
 ghost use Rattle.guarded_cell.specs.declared.cell.AnyCell.TheVariants.{Ticket, Mcs};
@@ -14,9 +14,10 @@ ghost use Rattle.kernel_object.specs.contracts.object.KernelObjectSeqObject.TheI
 ghost use Rattle.std_alloc.specs.Arc.{arc_value};
 
 use crate::applying::apply_held;
+use crate::call_numbers::Answered;
 use crate::place::put_in;
-use crate::report_codes::{DONE, LOG_FULL, Returned, kept_code, returned_done, returned_of};
-use crate::whole::{Whole, call_polled};
+use crate::report_codes::{AGAIN, DONE, LOG_FULL, answer_code, call_code, count_look, kept_code};
+use crate::whole::call_polled;
 use crate::{Caller, CallerPlace};
 use core::mem::replace;
 use guarded_cell::{AnyCaller, AnyCell, polled_mcs};
@@ -34,27 +35,31 @@ fn go_on(
     cell: &AnyCell<KernelObject>,
     place: &mut CallerPlace<KernelObject>,
     call: KCall,
-) -> Returned
+    answered: &mut Answered,
+    looks: &mut u64,
+) -> u32
     requires { IsPlaceOf cell.now place.old }
     ensures place { IsPlaceOf cell.now place.new }
-    ensures reports { ReportsCalled cell.now call place.old result place.new }
+    ensures reports { ReportsCalled cell.now call place.old (answered.old, looks.old) result place.new (answered.new, looks.new) }
 {
     let polled = cell.poll_acquire(place.take(cell));
     let (caller, whole) = call_polled(cell, polled, &call);
     place.put(cell, caller);
-    returned_of(whole)
+    call_code(whole, answered, looks)
 }
 
 // After a failed look.
 #[cold]
 #[inline(never)]
-fn wait_drawn(line: &mut Line, drawn: Drawn<KernelObject>) -> Returned
+fn wait_drawn(line: &mut Line, drawn: Drawn<KernelObject>, looks: &mut u64) -> u32
     requires { line.old ≡ None }
     ensures line { line.new ≡ Some (callers.Ticket (at_ticket.Drawn drawn)) }
-    ensures reported { result ≡ returned_of whole.Waits }
+    ensures looks { looks.new ≡ looks_after true looks.old }
+    ensures reported { result ≡ AGAIN }
 {
     put_in(line, AnyCaller::Ticket(TicketCaller::Drawn(drawn)));
-    returned_of(Whole::Waits)
+    count_look(true, looks);
+    AGAIN
 }
 
 // A caller with another before it in the queue arms itself, links itself, and looks.
@@ -65,34 +70,33 @@ fn come_behind(
     place: &mut CallerPlace<KernelObject>,
     behind: Behind<KernelObject>,
     call: KCall,
-) -> Returned
+    answered: &mut Answered,
+    looks: &mut u64,
+) -> u32
     requires cell { IfMcs any.now (λ c. IsBehindOf c behind) }
     requires one { IsOne (state_of_behind behind).caller }
     requires away { IsAway place.old }
     ensures place { IsPlaceOf any.now place.new }
-    ensures reports { (p : KernelAnyCaller) → GoesBehind any.now p behind → ReportsCalledAt any.now call p result place.new }
+    ensures reports { (p : KernelCaller) → GoesBehind any.now p behind → ReportsCalledAt any.now call p (answered.old, looks.old) result place.new (answered.new, looks.new) }
 {
     let AnyCell::Mcs(cell) = any else {
         unreachable!()
     };
     let (caller, whole) = call_polled(any, polled_mcs(cell.line_up(behind)), &call);
     place.put(any, caller);
-    returned_of(whole)
+    call_code(whole, answered, looks)
 }
 
 // It still holds the lock, as its successor has to link itself first.
 #[cold]
 #[inline(never)]
-fn keep(line: &mut Line, leaving: Leaving<KernelObject>, returned: Returned) -> Returned
+fn keep(line: &mut Line, leaving: Leaving<KernelObject>, reported: u32) -> u32
     requires { line.old ≡ None }
     ensures line { line.new ≡ Some (callers.Mcs (at_mcs.Leaving leaving)) }
-    ensures reported { result ≡ kept_of returned }
+    ensures reported { result ≡ kept_code reported }
 {
     put_in(line, AnyCaller::Mcs(McsCaller::Leaving(leaving)));
-    Returned {
-        number: kept_code(returned.number),
-        reply: returned.reply,
-    }
+    kept_code(reported)
 }
 
 // A function of its own, since there is seldom a successor.
@@ -106,18 +110,32 @@ fn pass_on(cell: &McsCell<KernelObject>, passing: Passing<KernelObject>) -> Pass
     cell.pass_on(passing)
 }
 
-// Does the call under the hold, once in the library for the calls that aren't named.
+// Does the call under the hold and writes its reply, once in the library for the calls that aren't named.
 #[inline(never)]
-fn shared_done(hold: &mut Hold<KernelObject>, call: &KCall, looked: bool) -> Returned {
-    returned_done(apply_held(hold, call), DONE, LOG_FULL, looked)
+fn shared_answer(hold: &mut Hold<KernelObject>, call: &KCall, answered: &mut Answered) -> u32
+    ensures of { (cell : KernelCell) → IsHoldOf cell hold.old → IsHoldOf cell hold.new }
+    ensures caller { (state_of_hold hold.new).caller ≡ (state_of_hold hold.old).caller }
+    ensures answered { IsAnswered call.now answered.old result answered.new hold.old hold.new }
+{
+    answer_code(apply_held(hold, call), DONE, LOG_FULL, answered)
 }
 
+// The same, in its place for a call that is named.
 #[inline]
-fn done_by(hold: &mut Hold<KernelObject>, call: &KCall, is_named: bool, looked: bool) -> Returned {
+fn answer(
+    hold: &mut Hold<KernelObject>,
+    call: &KCall,
+    is_named: bool,
+    answered: &mut Answered,
+) -> u32
+    ensures of { (cell : KernelCell) → IsHoldOf cell hold.old → IsHoldOf cell hold.new }
+    ensures caller { (state_of_hold hold.new).caller ≡ (state_of_hold hold.old).caller }
+    ensures answered { IsAnswered call.now answered.old result answered.new hold.old hold.new }
+{
     if is_named {
-        returned_done(apply_held(hold, call), DONE, LOG_FULL, looked)
+        answer_code(apply_held(hold, call), DONE, LOG_FULL, answered)
     } else {
-        shared_done(hold, call, looked)
+        shared_answer(hold, call, answered)
     }
 }
 
@@ -128,45 +146,48 @@ fn straight_ticket(
     place: &mut CallerPlace<KernelObject>,
     call: KCall,
     is_named: bool,
-) -> Returned
+    answered: &mut Answered,
+    looks: &mut u64,
+) -> u32
     requires pass { IsTicketPassOf cell.now pass }
     requires one { IsOne (state_of_pass pass).caller }
     requires away { IsAway place.old }
     ensures place { IsPlaceOf (Ticket cell.now) place.new }
-    ensures reports { ReportsCalledAt (Ticket cell.now) call (callers.Ticket (at_ticket.Idle pass)) result place.new }
+    ensures reports { ReportsCalledAt (Ticket cell.now) call (callers.Ticket (at_ticket.Idle pass)) (answered.old, looks.old) result place.new (answered.new, looks.new) }
 {
     match cell.arrive(pass) {
         Ok(mut hold) => {
-            let returned = done_by(&mut hold, &call, is_named, true);
+            let reported = answer(&mut hold, &call, is_named, answered);
             place.pass = Some(cell.serve(hold));
-            returned
+            count_look(true, looks);
+            reported
         }
-        Err(drawn) => wait_drawn(&mut place.line, drawn),
+        Err(drawn) => wait_drawn(&mut place.line, drawn, looks),
     }
 }
 
-// A holder of an MCS lock that has done its call releases the lock.
+// A holder of an MCS lock whose call has that result releases the lock.
 #[inline]
 fn leave_mcs(
     cell: &McsCell<KernelObject>,
     hold: Hold<KernelObject>,
     place: &mut CallerPlace<KernelObject>,
-    returned: Returned,
-) -> Returned
+    reported: u32,
+) -> u32
     requires hold { IsMcsHoldOf cell.now hold }
     requires one { IsOne (state_of_hold hold).caller }
     requires away { IsAway place.old }
     ensures place { IsPlaceOf (Mcs cell.now) place.new }
-    ensures left { HasLeft (Mcs cell.now) hold returned result place.new }
+    ensures left { HasLeft cell.now hold reported result place.new }
 {
     match cell.see(hold) {
         Ok(passing) => place.pass = Some(pass_on(cell, passing)),
         Err(alone) => match cell.rest(alone) {
             Ok(rested) => put_in(&mut place.rested, rested),
-            Err(leaving) => return keep(&mut place.line, leaving, returned),
+            Err(leaving) => return keep(&mut place.line, leaving, reported),
         },
     }
-    returned
+    reported
 }
 
 #[inline]
@@ -177,20 +198,22 @@ fn straight_mcs(
     place: &mut CallerPlace<KernelObject>,
     call: KCall,
     is_named: bool,
-) -> Returned
+    answered: &mut Answered,
+    looks: &mut u64,
+) -> u32
     requires cell { any.now ≡ Mcs cell.now }
     requires rested { IsRestedOf cell.now rested }
     requires one { IsOne (state_of_rested rested).caller }
     requires away { IsAway place.old }
     ensures place { IsPlaceOf (Mcs cell.now) place.new }
-    ensures reports { ReportsCalledAt (Mcs cell.now) call (callers.Mcs (at_mcs.Rested rested)) result place.new }
+    ensures reports { ReportsCalledAt (Mcs cell.now) call (callers.Mcs (at_mcs.Rested rested)) (answered.old, looks.old) result place.new (answered.new, looks.new) }
 {
     let mut hold = match cell.arrive(rested) {
         Entered::Hold(hold) => hold,
-        Entered::Behind(behind) => return come_behind(any, place, behind, call),
+        Entered::Behind(behind) => return come_behind(any, place, behind, call, answered, looks),
     };
-    let returned = done_by(&mut hold, &call, is_named, false);
-    leave_mcs(cell, hold, place, returned)
+    let reported = answer(&mut hold, &call, is_named, answered);
+    leave_mcs(cell, hold, place, reported)
 }
 
 // A caller of an MCS lock whose `next` may not be clear, as its last call had a successor.
@@ -200,41 +223,49 @@ fn from_pass(
     cell: &McsCell<KernelObject>,
     place: &mut CallerPlace<KernelObject>,
     call: KCall,
-) -> Returned
+    answered: &mut Answered,
+    looks: &mut u64,
+) -> u32
     requires cell { any.now ≡ Mcs cell.now }
     requires place { IsPlaceOf (Mcs cell.now) place.old }
     requires rested { place.old.rested ≡ None }
     ensures place { IsPlaceOf (Mcs cell.now) place.new }
-    ensures reports { ReportsCalled (Mcs cell.now) call place.old result place.new }
+    ensures reports { ReportsCalled (Mcs cell.now) call place.old (answered.old, looks.old) result place.new (answered.new, looks.new) }
 {
     let Some(pass) = replace(&mut place.pass, None) else {
-        return go_on(any, place, call);
+        return go_on(any, place, call, answered, looks);
     };
     let mut hold = match cell.enter(cell.clear(pass)) {
         Entered::Hold(hold) => hold,
-        Entered::Behind(behind) => return come_behind(any, place, behind, call),
+        Entered::Behind(behind) => return come_behind(any, place, behind, call, answered, looks),
     };
-    let returned = shared_done(&mut hold, &call, false);
-    leave_mcs(cell, hold, place, returned)
+    let reported = shared_answer(&mut hold, &call, answered);
+    leave_mcs(cell, hold, place, reported)
 }
 
-/// Does a whole call, as far as it comes without waiting. A call that is known when this is compiled is named: no code for other
-/// calls is executed then.
+/// Does a whole call, as far as it comes without waiting, and returns its result. The reply is written if it was done, and the look
+/// is counted. A call that is known when this is compiled is named: no code for other calls is executed then.
 #[inline]
-pub fn call_straight(caller: &mut Caller<KernelObject>, call: KCall, is_named: bool) -> Returned
+pub fn call_straight(
+    caller: &mut Caller<KernelObject>,
+    call: KCall,
+    is_named: bool,
+    answered: &mut Answered,
+    looks: &mut u64,
+) -> u32
     ensures cell { arc_value caller.new.cell ≡ arc_value caller.old.cell }
-    ensures reports { ReportsCalled (arc_value caller.old.cell) call caller.old.place result caller.new.place }
+    ensures reports { ReportsCalled (arc_value caller.old.cell) call caller.old.place (answered.old, looks.old) result caller.new.place (answered.new, looks.new) }
 {
     let any = &*caller.cell;
     let place = &mut caller.place;
     match any {
         AnyCell::Ticket(cell) => match replace(&mut place.pass, None) {
-            Some(pass) => straight_ticket(cell, pass, place, call, is_named),
-            None => go_on(any, place, call),
+            Some(pass) => straight_ticket(cell, pass, place, call, is_named, answered, looks),
+            None => go_on(any, place, call, answered, looks),
         },
         AnyCell::Mcs(cell) => match replace(&mut place.rested, None) {
-            Some(rested) => straight_mcs(any, cell, rested, place, call, is_named),
-            None => from_pass(any, cell, place, call),
+            Some(rested) => straight_mcs(any, cell, rested, place, call, is_named, answered, looks),
+            None => from_pass(any, cell, place, call, answered, looks),
         },
     }
 }

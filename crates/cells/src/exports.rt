@@ -6,7 +6,7 @@ use arrayvec::ArrayVec;
 use cell_callers::{
     Answered, Asked, BUSY, Batch, DONE, DONE_HELD, Handle, HandleContent, LOG_FULL, LOG_FULL_HELD,
     NOT_FOUND, REFUSED, Replies, TriedCall, at_content, batch_in_place, call_straight, called_of,
-    progress_code, returned, shared_answer_code, shared_called_of, try_code, write_calls,
+    progress_code, shared_answer_code, shared_called_of, try_code, write_calls,
 };
 use event_log::MOST_CALLS;
 use kernel_object::KCall;
@@ -73,20 +73,30 @@ pub extern "C" fn mc2_handle_apply(
 
 /// Performs that call, as `mc2_poll_call` does.
 #[inline]
-pub fn call_of(
-    caller: &mut Handle,
-    call: KCall,
-    is_named: bool,
-    answered: &mut Answered,
-    looks: &mut u64,
-) -> u32
+pub fn call_of(caller: &mut Handle, call: KCall, answered: &mut Answered, looks: &mut u64) -> u32
     ensures { ReportsCallOf call (content_of caller.old) (answered.old, looks.old) result (content_of caller.new) (answered.new, looks.new) }
 {
-    let returned = at_content(caller, call, |content, call| match content {
-        HandleContent::Caller(caller) => call_straight(caller, call, is_named),
-        _ => returned(REFUSED, false, 0),
-    });
-    returned.write(answered, looks)
+    // (by value: the contract of `at_content` doesn't say which value a borrow has after `at_content` has passed it on)
+    let (reported, said, looked) = at_content(
+        caller,
+        (call, *answered, *looks),
+        |content, (call, answered, looks)| {
+            let (mut answered, mut looks) = (answered, looks);
+            let reported = match content {
+                HandleContent::Caller(caller) => call_straight(
+                    caller,
+                    call,
+                    &mut answered,
+                    &mut looks,
+                ),
+                _ => REFUSED,
+            };
+            (reported, answered, looks)
+        },
+    );
+    *answered = said;
+    *looks = looked;
+    reported
 }
 
 /// Acquires the lock, performs the call as one event, and releases the lock, as far as this needs no waiting. A look adds 1 to
