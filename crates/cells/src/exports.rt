@@ -73,7 +73,13 @@ pub extern "C" fn mc2_handle_apply(
 
 /// Performs that call, as `mc2_poll_call` does.
 #[inline]
-pub fn call_of(caller: &mut Handle, call: KCall, answered: &mut Answered, looks: &mut u64) -> u32
+pub fn call_of(
+    caller: &mut Handle,
+    call: KCall,
+    is_named: bool,
+    answered: &mut Answered,
+    looks: &mut u64,
+) -> u32
     ensures { ReportsCallOf call (content_of caller.old) (answered.old, looks.old) result (content_of caller.new) (answered.new, looks.new) }
 {
     // (by value: the contract of `at_content` doesn't say which value a borrow has after `at_content` has passed it on)
@@ -86,6 +92,7 @@ pub fn call_of(caller: &mut Handle, call: KCall, answered: &mut Answered, looks:
                 HandleContent::Caller(caller) => call_straight(
                     caller,
                     call,
+                    is_named,
                     &mut answered,
                     &mut looks,
                 ),
