@@ -1,3 +1,4 @@
 pub mod McsRule
 pub mod McsActing
 pub mod McsAtOnce
+pub mod McsPolls

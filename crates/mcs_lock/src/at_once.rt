@@ -1,6 +1,6 @@
 //! Operations of MCS lock callers whose `next` is clear while they rest.
 
-ghost use Rattle.std.specs.Prelude.{[], true, false, IfOk, IfErr};
+ghost use Rattle.std.specs.Prelude.{◌≡◌, [], true, false, IfOk, IfErr};
 ghost use Rattle.word_rule.specs.{declared.lock_kind.Stage.TheVariants.Idle, CallerState.Moves, Mcs.Steps.{IsEmpty, IsEnter, IsReady}, Passes.{state_of_pass, state_of_hold}};
 ghost use Rattle.mcs_lock.specs.{Arrivals.{AfterClear, IsRestedOf, state_of_rested}, Passes.{IsPassOf, IsBehindOf, IsHoldOf, IsAloneOf, IsLeavingOf, IsTryingOf, IfHold, IfBehind, state_of_behind, state_of_alone, state_of_leaving, state_of_trying}};
 
@@ -10,6 +10,15 @@ use crate::rested::Rested;
 use crate::states::{Alone, Behind, Entered, Leaving, Trying};
 use event_log::SeqObject;
 use word_rule::{Hold, Inside, Pass};
+
+impl<O: SeqObject> Rested<O> {
+    /// The CPU that it acts as.
+    pub fn cpu(&self) -> u32
+        ensures { result ≡ (state_of_rested self.now).caller.acting }
+    {
+        self.outside.cpu.number
+    }
+}
 
 impl<O: SeqObject> McsCell<O> {
     /// Puts itself into the tail: one swap, which is a clear and an enter, since its `next` is clear already. If the queue was empty

@@ -3,7 +3,8 @@
 ghost use Rattle.std.specs.Prelude.{◌≡◌};
 ghost use Rattle.sound_run.specs.declared.lock_kind.LockKind.TheVariants.{Mcs};
 ghost use Rattle.word_rule.specs.{Passes.{view_of_hold, state_of_hold}, Polls.{IsPolled, OfPolled, after_poll}};
-ghost use Rattle.mcs_lock.specs.{declared.caller.McsCaller.TheVariants as at, Callers.{IsCallerOf, state_of_caller}, Passes.{IsBehindOf, IsHoldOf, IsWaitingOf, state_of_behind, state_of_waiting}};
+ghost use Rattle.mcs_lock.specs.declared.caller.McsCaller.TheVariants as at;
+ghost use Rattle.mcs_lock.specs.{Callers.{IsCallerOf, state_of_caller}, Passes.{IsBehindOf, IsHoldOf, IsWaitingOf, state_of_behind, state_of_waiting}};
 
 use crate::caller::McsCaller;
 use crate::cell::McsCell;
@@ -108,11 +109,11 @@ impl<O: SeqObject> PolledCell<O> for McsCell<O> {
         match caller {
             McsCaller::Idle(pass) => match self.enter(self.clear(pass)) {
                 Entered::Hold(hold) => Polled::Held(hold, false),
-                Entered::Behind(behind) => self.line_up(behind),
+                Entered::Behind(behind) => self.poll_look(self.link(self.arm(behind))),
             },
             McsCaller::Rested(rested) => match self.arrive(rested) {
                 Entered::Hold(hold) => Polled::Held(hold, false),
-                Entered::Behind(behind) => self.line_up(behind),
+                Entered::Behind(behind) => self.poll_look(self.link(self.arm(behind))),
             },
             McsCaller::Waiting(waiting) => self.poll_look(waiting),
             other => Polled::Refused(other),
@@ -120,14 +121,16 @@ impl<O: SeqObject> PolledCell<O> for McsCell<O> {
     }
 
     fn poll_try_acquire(&self, caller: McsCaller<O>) -> Tried<Hold<O>, McsCaller<O>> {
-        let trying = match caller {
-            McsCaller::Idle(pass) => self.prepare(pass),
-            McsCaller::Rested(rested) => self.ready(rested),
-            other => return Tried::Refused(other),
-        };
-        match self.try_enter(trying) {
-            Ok(hold) => Tried::Held(hold),
-            Err(pass) => Tried::Busy(McsCaller::Idle(pass)),
+        match caller {
+            McsCaller::Idle(pass) => match self.try_enter(self.prepare(pass)) {
+                Ok(hold) => Tried::Held(hold),
+                Err(pass) => Tried::Busy(McsCaller::Idle(pass)),
+            },
+            McsCaller::Rested(rested) => match self.try_enter(self.ready(rested)) {
+                Ok(hold) => Tried::Held(hold),
+                Err(pass) => Tried::Busy(McsCaller::Idle(pass)),
+            },
+            other => Tried::Refused(other),
         }
     }
 

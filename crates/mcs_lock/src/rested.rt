@@ -1,7 +1,5 @@
 //! A caller of an MCS lock that isn't in the queue and whose `next` is clear.
 
-ghost use Rattle.std.specs.Prelude.{◌≡◌};
-ghost use Rattle.mcs_lock.specs.Arrivals.{state_of_rested};
 ghost use Rattle.event_log.proofs.Props.{legal_props};
 ghost use Rattle.word_rule.specs.{declared.lock_kind.Stage.TheVariants.Trying, Sides.StandsOutside};
 
@@ -13,13 +11,4 @@ use word_rule::Outside;
 pub struct Rested<O: SeqObject> {
     pub(crate) outside: Outside<O>,
     pub ghost rests: { StandsOutside O.SeqObject Trying outside } by { Prim.hlevel legal_props },
-}
-
-impl<O: SeqObject> Rested<O> {
-    /// The CPU that it acts as.
-    pub fn cpu(&self) -> u32
-        ensures { result ≡ (state_of_rested self.now).caller.acting }
-    {
-        self.outside.cpu.number
-    }
 }

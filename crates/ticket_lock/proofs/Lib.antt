@@ -1,2 +1,3 @@
 pub mod TicketRule
 pub mod TicketAtOnce
+pub mod TicketPolls
