@@ -2,8 +2,7 @@
 
 ghost use Rattle.std.specs.Prelude.{◌≡◌};
 ghost use Rattle.sound_run.specs.declared.lock_kind.LockKind.TheVariants.{Mcs};
-ghost use Rattle.word_rule.specs.{Passes.{view_of_hold, state_of_hold}, Polls.{IsPolled, OfPolled, after_poll}};
-ghost use Rattle.mcs_lock.specs.declared.caller.McsCaller.TheVariants as at;
+ghost use Rattle.word_rule.specs.{Passes.{view_of_hold, state_of_hold}, Polls.{GoesTo, OfPolled, after_poll}};
 ghost use Rattle.mcs_lock.specs.{Callers.{IsCallerOf, state_of_caller}, Passes.{IsBehindOf, IsHoldOf, IsWaitingOf, state_of_behind, state_of_waiting}};
 
 use crate::caller::McsCaller;
@@ -19,7 +18,7 @@ impl<O: SeqObject> McsCell<O> {
         requires { IsWaitingOf self.now waiting }
         ensures of { OfPolled (IsHoldOf self.now) (IsCallerOf self.now) result }
         ensures caller { (after_poll O.SeqObject state_of_hold state_of_caller result).caller ≡ (state_of_waiting waiting).caller }
-        ensures polled { IsPolled O.SeqObject state_of_hold state_of_caller Mcs (at.Waiting waiting) result }
+        ensures goes { GoesTo O.SeqObject state_of_hold state_of_caller Mcs (state_of_waiting waiting) result }
     {
         match self.look(waiting) {
             Ok(hold) => Polled::Held(hold, true),
@@ -33,7 +32,7 @@ impl<O: SeqObject> McsCell<O> {
         requires { IsBehindOf self.now behind }
         ensures of { OfPolled (IsHoldOf self.now) (IsCallerOf self.now) result }
         ensures caller { (after_poll O.SeqObject state_of_hold state_of_caller result).caller ≡ (state_of_behind behind).caller }
-        ensures polled { IsPolled O.SeqObject state_of_hold state_of_caller Mcs (at.Behind behind) result }
+        ensures goes { GoesTo O.SeqObject state_of_hold state_of_caller Mcs (state_of_behind behind) result }
     {
         self.poll_look(self.link(self.arm(behind)))
     }
@@ -109,11 +108,11 @@ impl<O: SeqObject> PolledCell<O> for McsCell<O> {
         match caller {
             McsCaller::Idle(pass) => match self.enter(self.clear(pass)) {
                 Entered::Hold(hold) => Polled::Held(hold, false),
-                Entered::Behind(behind) => self.poll_look(self.link(self.arm(behind))),
+                Entered::Behind(behind) => self.line_up(behind),
             },
             McsCaller::Rested(rested) => match self.arrive(rested) {
                 Entered::Hold(hold) => Polled::Held(hold, false),
-                Entered::Behind(behind) => self.poll_look(self.link(self.arm(behind))),
+                Entered::Behind(behind) => self.line_up(behind),
             },
             McsCaller::Waiting(waiting) => self.poll_look(waiting),
             other => Polled::Refused(other),

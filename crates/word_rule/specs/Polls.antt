@@ -15,9 +15,14 @@ abbrev pub got_by : Bool → Progress
 got_by true = reported.Found
 got_by false = reported.Entered
 
+-- a holder is releasing an MCS lock, and its successor has to link itself first
+abbrev pub leaving_at : Stage → Bool
+leaving_at (Mcs Leaving) = true
+leaving_at stage = false
+
 module _ {O P C R : Type 0} where
   -- by the object that it has, if it has one, and its stage: it is neither in line nor holds the lock; it is idle or at a look; it
-  -- holds the lock, and hasn't begun to release it; it is releasing an MCS lock, and its successor has to link itself first
+  -- holds the lock, and hasn't begun to release it
   abbrev pub idle_at : Option (History O P C R) → Stage → Bool
   idle_at None Idle = true
   idle_at has stage = false
@@ -34,10 +39,6 @@ module _ {O P C R : Type 0} where
   holding_at (Some h) (Mcs Leaving) = false
   holding_at (Some h) (Mcs (Passing j)) = false
   holding_at (Some h) stage = true
-
-  abbrev pub leaving_at : Stage → Bool
-  leaving_at (Mcs Leaving) = true
-  leaving_at stage = false
 
   abbrev pub is_idle : CallerState O P C R → Bool
   is_idle b = idle_at b.has b.stage
@@ -120,10 +121,16 @@ module _ {O P C R H S : Type 0} (g : Ghosts O P C R) (hold_state : H → CallerS
   after_try (tried.Busy q) = state_of q
   after_try (tried.Refused q) = state_of q
 
-  -- a caller holds the lock, or has had one failed look
+  -- from state b a caller has come to hold the lock, or to wait in line after one failed look
+  abbrev pub GoesTo : LockKind → CallerState O P C R → Polled H S → Type 0
+  GoesTo k b (polled.Held h looked) = (n : ℕ) × GoesThere g state_of k b n (got_by looked) (hold_state h)
+  GoesTo k b (polled.Waits q) = (n : ℕ) × GoesThere g state_of k b n reported.Looked (state_of q)
+  GoesTo k b (polled.Refused q) = ⊥
+
+  -- the same of a caller that is idle or at a look; any other is refused, and nothing is done
   abbrev pub IsPolled : LockKind → S → Polled H S → Type 0
-  IsPolled k p (polled.Held h looked) = (n : ℕ) × GoesThere g state_of k (state_of p) n (got_by looked) (hold_state h)
-  IsPolled k p (polled.Waits q) = (n : ℕ) × GoesThere g state_of k (state_of p) n reported.Looked (state_of q)
+  IsPolled k p (polled.Held h looked) = GoesTo k (state_of p) (polled.Held h looked)
+  IsPolled k p (polled.Waits q) = GoesTo k (state_of p) (polled.Waits q)
   IsPolled k p (polled.Refused q) = (may_poll (state_of p) ≡ false) × (q ≡ p)
 
   -- whether a try acquired the lock; a caller that isn't idle is refused, and nothing is done

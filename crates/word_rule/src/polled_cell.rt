@@ -1,6 +1,7 @@
 //! The interface of a cell whose callers wait outside its functions.
 
 ghost use Rattle.std.specs.Prelude.{◌≡◌};
+ghost use Rattle.sound_run.specs.declared.lock_kind.LockKind.{LockKind};
 ghost use Rattle.word_rule.specs.{Cell.HoldView, CallerState.CallerState, Polls.{IsAcquireStep, IsReleaseStep, IsPolled, IsRelease, IsTried, OfPolled, OfTried, after_poll, after_try}};
 
 use crate::{Polled, Progress, Tried};
