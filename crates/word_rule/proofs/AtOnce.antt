@@ -1,6 +1,6 @@
 -- Operations on a cell's table that aren't a single turn, at any lock: two turns, each with its own report; and the end of a hold
 -- after which the caller is at another stage than the turn leaves it, where `erase` makes both locks equal.
-use Rattle.std.proofs.Common.{◌≡◌, ◌≢◌, ℕ, ◌<◌, Bool, true, false, true≢false, List, [], ◌∷◌, ◌++◌, drop, length, set, refl, sym, ap, ◌∙◌, subst, arith, append_assoc, Option, Some}
+use Rattle.std.proofs.Common.{◌≡◌, ℕ, ◌<◌, Bool, true, false, true≢false, List, [], ◌∷◌, ◌++◌, drop, length, set, refl, sym, ap, ◌∙◌, subst, arith, append_assoc, Option, Some}
 use mathlib.Core.Option.{some}
 use lib.ListN.{get_elem?}
 use Rattle.atomic_table.specs.Table.{gives, rest, stepped}

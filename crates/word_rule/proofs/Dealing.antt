@@ -1,5 +1,5 @@
 -- The callers of a new cell's first seat go to seats of their own, one by one.
-use Rattle.std.proofs.{Common.{◌≡◌, ◌⊎◌, ℕ, suc, ◌+◌, ◌-◌, ◌<◌, ◌==◌, Bool, List, [], ◌∷◌, ◌++◌, length, refl, sym, ap, ◌∙◌, subst, ⊎_elim, arith}, lemmas.Bool.Decides.nat_tests}
+use Rattle.std.proofs.{Common.{◌≡◌, ℕ, suc, ◌+◌, ◌-◌, ◌<◌, ◌==◌, Bool, List, [], ◌∷◌, ◌++◌, length, refl, sym, ap, ◌∙◌, subst, ⊎_elim, arith}, lemmas.Bool.Decides.nat_tests}
 use Rattle.event_log.specs.{declared.object.SeqObject.Ghosts, Distinct.has}
 use Rattle.event_log.proofs.Lists.{get_push}
 use Rattle.word_rule.specs.{declared.lock_kind.Stage.TheVariants.Idle, Cell.{Cell, Lawful, EachAt, opening_pass}, Locks.Fits, Rule.CellInvariant.SeatView, Rule.Seats.{Seat, idle, idle_from, keeping, letting}, Rule.Callers.{pass_view_of, IsWithout}}

@@ -1,5 +1,5 @@
 -- What the step machine keeps of a ticket lock shows it after each turn.
-use Rattle.std.proofs.{Common.{◌≡◌, ◌≢◌, ℕ, ◌+◌, ◌-◌, ◌/◌, ◌%◌, ◌^◌, ◌<◌, true, false, List, length, get_or, set, refl, ap, ◌∙◌}, lemmas.Bool.false_from_ne_true}
+use Rattle.std.proofs.{Common.{◌≡◌, ◌≢◌, ℕ, ◌+◌, ◌/◌, ◌%◌, ◌^◌, ◌<◌, true, false, List, length, get_or, set, refl, ap, ◌∙◌}, lemmas.Bool.false_from_ne_true}
 use Rattle.word_rule.specs.{declared.machine.step_done.StepDone.StepDone, declared.lock_kind.Stage.Stage, declared.lock_kind.Stage.TheVariants.{Idle, Ticket}, declared.lock_kind.TicketStage.TheVariants.{Drawn, Served}, Line.{is_first, taking}, Rule.LockStates.RepresentsState, Ticket.Acquire.draw, Ticket.Definition.{ticket_lock, ticket_turn}, Ticket.State.{TicketLock, tickets}}
 use Rattle.word_rule.proofs.ShownTurns.{After, at, became, same}
 use Rattle.word_rule.specs.declared.machine.step_done.StepDone.TheVariants as steps
