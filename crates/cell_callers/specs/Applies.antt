@@ -1,9 +1,7 @@
 -- A call under a hold.
-use Rattle.std.specs.{declared.cmp.PartialEq.{Ghosts as Eq}, declared.default.Default.{Ghosts as Default}, Prelude.{◌≡◌, false, List, length, Option, Some, None, Result, Ok, Err}}
+use Rattle.std.specs.{declared.cmp.PartialEq.{Ghosts as Eq}, declared.default.Default.{Ghosts as Default}, Prelude.{◌≡◌, List, length, Result, Ok, Err}}
 use Rattle.event_log.specs.{declared.object.SeqObject.Ghosts, declared.logged.NoRoom.NoRoom, History.with_event, declared.event.Steps.Steps, Log.{answers, one_step}}
 use Rattle.word_rule.specs.{Cell.after_steps, declared.hold.Hold.Hold, Passes.{view_of_hold, run_of_hold}}
-use Rattle.cell_callers.specs.{declared.caller_state.CallerState.CallerState, CallerStates.is_holding}
-use Rattle.cell_callers.specs.declared.caller_state.CallerState.TheVariants as at
 
 module _ {O P C R : Type 0} (g : Ghosts O P C R) {call_eq : Eq C} {call_default : Default C} {reply_eq : Eq R} {reply_default : Default R} where
   -- the call was done as one event of the CPU, the last of the log, and was answered as the object answers there
@@ -34,9 +32,3 @@ module _ {O P C R : Type 0} (g : Ghosts O P C R) {call_eq : Eq C} {call_default 
   abbrev pub IsHeldBatch : Hold O P C R g call_eq call_default reply_eq reply_default → List C → Result (Steps O P C R) NoRoom → Hold O P C R g call_eq call_default reply_eq reply_default → Type 0
   IsHeldBatch h calls (Ok done) k = HasAppliedAll h calls done k
   IsHeldBatch h calls (Err full) k = WasFull h k
-
-  -- the answer; a caller that doesn't hold the lock is refused, and nothing is done
-  abbrev pub IsApplied : CallerState O P C R g call_eq call_default reply_eq reply_default → C → Option (Result R NoRoom) → CallerState O P C R g call_eq call_default reply_eq reply_default → Type 0
-  IsApplied (at.Holding h) call (Some said) (at.Holding k) = IsHeldApply h call said k
-  IsApplied before call None after = (is_holding before ≡ false) × (after ≡ before)
-  IsApplied before call reported after = ⊥

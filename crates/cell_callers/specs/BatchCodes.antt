@@ -2,7 +2,7 @@
 use Rattle.std.specs.Prelude.{◌≡◌, ℕ, List, [], ◌∷◌, length, take, map, Option, Some, None, Result, Ok, Err}
 use Rattle.event_log.specs.declared.logged.NoRoom.{NoRoom}
 use Rattle.kernel_object.specs.{declared.call.KCall.KCall, KernelTypes.KernelStep}
-use Rattle.cell_callers.specs.{declared.call_numbers.Asked.Asked, declared.batching.Batch.Batch, declared.batching.Replies.Replies, declared.report_codes.TheConstants.{AGAIN, REFUSED, DONE, LOG_FULL, DONE_HELD, LOG_FULL_HELD}, declared.whole.Whole.Whole, Coding.{called_of, reply_code}, HandleContents.KernelSteps}
+use Rattle.cell_callers.specs.{declared.call_numbers.Asked.Asked, declared.batching.Batch.Batch, declared.batching.Replies.Replies, declared.report_codes.TheConstants.{AGAIN, REFUSED, DONE, LOG_FULL, DONE_HELD, LOG_FULL_HELD}, declared.whole.Whole.Whole, Coding.{called_of, reply_code}, KernelCallers.KernelSteps}
 use Rattle.cell_callers.specs.declared.whole.Whole.TheVariants as whole
 
 abbrev pub with_call : Option KCall → Option (List KCall) → Option (List KCall)

@@ -2,7 +2,7 @@
 use Rattle.std.specs.Prelude.{◌≡◌, ℕ, Bool, true, false, List, Result}
 use Rattle.event_log.specs.declared.logged.NoRoom.{NoRoom}
 use Rattle.kernel_object.specs.{declared.call.KCall.KCall, contracts.object.KernelObjectSeqObject.TheImpl.ghosts}
-use Rattle.cell_callers.specs.{declared.batching.Replies.Replies, declared.report_codes.TheConstants.{DONE, LOG_FULL, DONE_HELD, LOG_FULL_HELD}, declared.handle_content.HandleContent.HandleContent, declared.whole.Whole.Whole, Applies.IsHeldBatch, BatchCodes.{ReportsAll, ReportsWhole}, Codes.{looks_after, has_looked}, HandleContents.{IsBatchIn, KernelCell, KernelHold, KernelPlace, KernelState, KernelSteps}, Places.Between, Wholes.{IsBatched, IsHeldCall}}
+use Rattle.cell_callers.specs.{declared.batching.Replies.Replies, declared.report_codes.TheConstants.{DONE, LOG_FULL, DONE_HELD, LOG_FULL_HELD}, declared.handle_content.HandleContent.HandleContent, declared.whole.Whole.Whole, Applies.IsHeldBatch, BatchCodes.{ReportsAll, ReportsWhole}, Codes.{looks_after, has_looked}, KernelCallers.{KernelCell, KernelHold, KernelPlace, KernelState, KernelSteps}, HandleContents.IsBatchIn, Places.Between, Wholes.{IsBatched, IsHeldCall}}
 
 -- the calls were done under the hold, or the log was full: the result, and the replies before and after
 abbrev pub IsRepliedHeld : List KCall → Replies → ℕ → Replies → KernelHold → KernelHold → Type 0
@@ -17,13 +17,13 @@ ReportsEnd false said n old new = ReportsAll DONE_HELD LOG_FULL_HELD said n old 
 abbrev pub ReportsHeldBatch : KernelCell → KernelHold → List KCall → Replies → ℕ → Replies → KernelState → Type 0
 ReportsHeldBatch cell h calls old n new q = (said : Result KernelSteps NoRoom) × (is_back : Bool) × ReportsEnd is_back said n old new × IsHeldCall ghosts (λ j k. IsHeldBatch ghosts j calls said k) cell h is_back q
 
--- a caller in state p has called, and is in state q: the result, with the replies and the looks before and after
+-- a caller p has called, and is q now: the result, with the replies and the looks before and after
 abbrev pub ReportsBatchedAt : KernelCell → KernelState → List KCall → Replies × ℕ → ℕ → KernelState → Replies × ℕ → Type 0
 ReportsBatchedAt cell p calls old n q new = (reported : Whole (Result KernelSteps NoRoom)) × ReportsWhole reported n old.0 new.0 × (new.1 ≡ looks_after (has_looked reported) old.1) × IsBatched ghosts cell p calls reported q
 
 -- the same for a caller in its place
 abbrev pub ReportsBatched : KernelCell → List KCall → KernelPlace → Replies × ℕ → ℕ → KernelPlace → Replies × ℕ → Type 0
-ReportsBatched cell calls before old n after new = (reported : Whole (Result KernelSteps NoRoom)) × ReportsWhole reported n old.0 new.0 × (new.1 ≡ looks_after (has_looked reported) old.1) × Between before after (λ p q. IsBatched ghosts cell p calls reported q)
+ReportsBatched cell calls before old n after new = (reported : Whole (Result KernelSteps NoRoom)) × ReportsWhole reported n old.0 new.0 × (new.1 ≡ looks_after (has_looked reported) old.1) × Between cell before after (λ p q. IsBatched ghosts cell p calls reported q)
 
 -- and for the content of a handle
 abbrev pub ReportsBatchIn : List KCall → HandleContent → Replies × ℕ → ℕ → HandleContent → Replies × ℕ → Type 0

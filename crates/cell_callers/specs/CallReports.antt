@@ -1,25 +1,43 @@
 -- The result of a whole call whose numbers are decoded.
-use Rattle.std.specs.Prelude.{◌≡◌, ℕ, Some, Result}
-use Rattle.event_log.specs.declared.logged.NoRoom.{NoRoom}
-use Rattle.guarded_cell.specs.declared.cell.AnyCell.{AnyCell}
-use Rattle.kernel_object.specs.{declared.call.KParams.KParams, declared.call.KCall.KCall, declared.call.KReply.KReply, declared.object.KernelObject.KernelObject, contracts.object.KernelObjectSeqObject.TheImpl.ghosts}
-use Rattle.cell_callers.specs.{declared.call_numbers.Answered.Answered, declared.whole.Whole.Whole, declared.handle_content.HandleContent.HandleContent, HandleContents.{IsCallIn, KernelBehind, KernelPlace, KernelState}, Codes.{call_code, looks_after, has_looked}, Places.{Between, place_of}, Wholes.IsCalled, Arrivals.GoesThere, declared.progress.Progress.Progress}
-use Rattle.cell_callers.specs.declared.caller_state.CallerState.TheVariants as at
+use Rattle.std.specs.Prelude.{◌≡◌, ℕ, Bool, true, false, Some, Result}
+use Rattle.event_log.specs.{declared.logged.NoRoom.NoRoom}
+use Rattle.kernel_object.specs.{declared.call.KCall.KCall, declared.call.KReply.KReply, contracts.object.KernelObjectSeqObject.TheImpl.ghosts, declared.call.KParams.KParams, declared.object.KernelObject.KernelObject}
+use Rattle.word_rule.specs.{declared.progress.Progress.Progress, CallerState.CallerState, Passes.state_of_hold, Polls.{GoesThere, IsRelease}}
+use Rattle.mcs_lock.specs.{declared.cell.McsCell.McsCell, Passes.state_of_behind}
+use Rattle.guarded_cell.specs.{AnyCallers.state_of_caller, Kinds.kind_of}
+use Rattle.cell_callers.specs.{declared.call_numbers.Answered.Answered, declared.report_codes.TheConstants.{DONE, LOG_FULL}, declared.whole.Whole.Whole, declared.handle_content.HandleContent.HandleContent, Applies.IsHeldApply, KernelCallers.{KernelBehind, KernelCell, KernelHold, KernelPlace, KernelState}, Codes.{answer_code, call_code, has_looked, kept_code, looks_after}, HandleContents.IsCallIn, Places.{Between, place_of}, Wholes.IsCalled}
+use Rattle.guarded_cell.specs.declared.cell.AnyCell.TheVariants as cells
+
+abbrev state : KernelState → CallerState KernelObject KParams KCall KReply
+state = state_of_caller
 
 -- the result, the reply and the looks are those of a call that reported this
 abbrev pub IsReportOf : Whole (Result KReply NoRoom) → Answered × ℕ → ℕ → Answered × ℕ → Type 0
 IsReportOf reported old n new = ((n, new.0) ≡ call_code old.0 reported) × (new.1 ≡ looks_after (has_looked reported) old.1)
 
--- a caller in state p has called, and is in a new state in that place
-abbrev pub ReportsCalledAt : AnyCell KernelObject KParams KCall KReply → KCall → KernelState → Answered × ℕ → ℕ → KernelPlace → Answered × ℕ → Type 0
-ReportsCalledAt cell call p old n after new = (reported : Whole (Result KReply NoRoom)) × (q : KernelState) × IsReportOf reported old n new × (place_of after ≡ Some q) × IsCalled ghosts cell p call reported q
+-- the call was done under the hold, or the log was full: the result, and the reply before and after
+abbrev pub IsRepliedUnder : KCall → Answered → ℕ → Answered → KernelHold → KernelHold → Type 0
+IsRepliedUnder call old n new h k = (said : Result KReply NoRoom) × ((n, new) ≡ answer_code DONE LOG_FULL old said) × IsHeldApply ghosts h call said k
 
--- each way from there, after another caller in the queue, is a way from state p with the same end and the same last report
-abbrev pub GoesBehind : AnyCell KernelObject KParams KCall KReply → KernelState → KernelBehind → Type 0
-GoesBehind cell p behind = (t : Progress) (n : ℕ) (q : KernelState) → GoesThere ghosts cell (at.Behind behind) n t q → (m : ℕ) × GoesThere ghosts cell p m t q
+-- the result of a call whose lock is released, or is still held
+abbrev pub left_code : Bool → ℕ → ℕ
+left_code true reported = reported
+left_code false reported = kept_code reported
 
-abbrev pub ReportsCalled : AnyCell KernelObject KParams KCall KReply → KCall → KernelPlace → Answered × ℕ → ℕ → KernelPlace → Answered × ℕ → Type 0
-ReportsCalled cell call before old n after new = (reported : Whole (Result KReply NoRoom)) × IsReportOf reported old n new × Between before after (λ p q. IsCalled ghosts cell p call reported q)
+-- a holder of an MCS lock, whose call has that result, has released the lock, or will
+abbrev pub HasLeft : McsCell KernelObject KParams KCall KReply → KernelHold → ℕ → ℕ → KernelPlace → Type 0
+HasLeft c h reported n after = (is_back : Bool) × (q : KernelState) × (place_of (cells.Mcs c) after ≡ Some q) × IsRelease ghosts state (kind_of (cells.Mcs c)) (state_of_hold h) is_back (state q) × (n ≡ left_code is_back reported)
+
+-- a caller p has called, and is a new one in that place
+abbrev pub ReportsCalledAt : KernelCell → KCall → KernelState → Answered × ℕ → ℕ → KernelPlace → Answered × ℕ → Type 0
+ReportsCalledAt cell call p old n after new = (reported : Whole (Result KReply NoRoom)) × (q : KernelState) × IsReportOf reported old n new × (place_of cell after ≡ Some q) × IsCalled ghosts cell p call reported q
+
+-- each way from there, after another caller in the queue, is a way from caller p with the same end and the same last report
+abbrev pub GoesBehind : KernelCell → KernelState → KernelBehind → Type 0
+GoesBehind cell p behind = (t : Progress) (n : ℕ) (a : CallerState KernelObject KParams KCall KReply) → GoesThere ghosts state (kind_of cell) (state_of_behind behind) n t a → (m : ℕ) × GoesThere ghosts state (kind_of cell) (state p) m t a
+
+abbrev pub ReportsCalled : KernelCell → KCall → KernelPlace → Answered × ℕ → ℕ → KernelPlace → Answered × ℕ → Type 0
+ReportsCalled cell call before old n after new = (reported : Whole (Result KReply NoRoom)) × IsReportOf reported old n new × Between cell before after (λ p q. IsCalled ghosts cell p call reported q)
 
 -- the same for the content of a handle
 abbrev pub ReportsCallOf : KCall → HandleContent → Answered × ℕ → ℕ → HandleContent → Answered × ℕ → Type 0

@@ -2,7 +2,7 @@
 use Rattle.std.specs.Prelude.{◌≡◌, ℕ, is_some, nat_lt, Bool, true, false, Option, Some, None, Result, Ok, Err, if◌then◌else◌}
 use Rattle.event_log.specs.declared.logged.TheConstants.{MOST_EVENTS}
 use Rattle.std_alloc.specs.Arc.{arc_value}
-use Rattle.cell_callers.specs.{declared.handle_content.HandleContent.HandleContent, declared.handle_content.HandleContent.TheVariants.{Empty, Cell, Caller, Ended}, declared.opening.Opening.Opening, declared.opening.NotOpened.NotOpened, declared.opening.NotOpened.TheVariants.NotEmpty, declared.cell_lifetime.NoNewCaller.NoNewCaller, declared.cell_lifetime.NoNewCaller.TheVariants.NoneLeft, declared.cell_lifetime.NotClosed.NotClosed, declared.cell_lifetime.NotClosed.TheVariants.NotAllBack, declared.logged_step.LoggedStep.LoggedStep, HandleContents.KernelCaller, LoggedSteps.logged_step, Ends.{IsSame, IsNewCaller, IsReturned, HasClosed, IsWhyOpen}, Openings.{IsOpened, IsUnfit}}
+use Rattle.cell_callers.specs.{declared.handle_content.HandleContent.HandleContent, declared.handle_content.HandleContent.TheVariants.{Empty, Cell, Caller, Ended}, declared.opening.Opening.Opening, declared.opening.NotOpened.NotOpened, declared.opening.NotOpened.TheVariants.NotEmpty, declared.cell_lifetime.NoNewCaller.NoNewCaller, declared.cell_lifetime.NoNewCaller.TheVariants.NoneLeft, declared.cell_lifetime.NotClosed.NotClosed, declared.cell_lifetime.NotClosed.TheVariants.NotAllBack, declared.logged_step.LoggedStep.LoggedStep, KernelCallers.KernelCaller, LoggedSteps.logged_step, Ends.{IsSame, IsNewCaller, IsReturned, HasClosed, IsWhyOpen}, Openings.{IsOpened, IsUnfit}, Places.idle_cpu}
 
 abbrev pub is_empty : HandleContent → Bool
 is_empty Empty = true
@@ -48,5 +48,5 @@ step_of before i j = None
 
 -- it may be freed unless it has a caller that isn't idle
 abbrev pub may_be_freed : HandleContent → Bool
-may_be_freed (Caller c) = is_some c.place.pass
+may_be_freed (Caller c) = is_some (idle_cpu c.place)
 may_be_freed content = true

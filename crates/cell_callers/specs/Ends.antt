@@ -2,9 +2,9 @@
 use Rattle.std.specs.{declared.cmp.PartialEq.{Ghosts as Eq}, declared.default.Default.{Ghosts as Default}, Prelude.{◌≡◌, ◌==◌, ◌&&◌, nat_lt, ◌<◌, ◌≤◌, ◌+◌, Bool, false, [], ◌∷◌, ◌++◌, Option, Some, None, Result, Ok, Err, vec_len}}
 use Rattle.std_alloc.specs.Arc.{arc_value}
 use Rattle.event_log.specs.{declared.object.SeqObject.Ghosts, History.History}
-use Rattle.word_rule.specs.{declared.pass.Pass.Pass, Cell.stored, LockRuns.{endings_in, arrivals_in}, Passes.{view_of_pass, run_of_pass}}
-use Rattle.cell_callers.specs.{declared.caller_state.CallerState.CallerState, declared.caller.Caller.Caller, declared.open_cell.OpenCell.OpenCell, declared.cell_lifetime.NoNewCaller.NoNewCaller, declared.cell_lifetime.NoNewCaller.TheVariants.{NoneLeft, NoShare}, declared.cell_lifetime.NotClosed.NotClosed, declared.cell_lifetime.NotClosed.TheVariants.{NotAllBack, Shared}, OpenCells.TakesIn, Places.{place_of, Between}}
-use Rattle.cell_callers.specs.declared.caller_state.CallerState.TheVariants as at
+use Rattle.word_rule.specs.{declared.pass.Pass.Pass, Cell.stored, LockRuns.{endings_in, arrivals_in}, Passes.{view_of_pass, run_of_pass}, Polls.is_idle}
+use Rattle.guarded_cell.specs.{declared.any_caller.AnyCaller.AnyCaller, AnyCallers.{idle_caller, state_of_caller}}
+use Rattle.cell_callers.specs.{declared.caller.Caller.Caller, declared.open_cell.OpenCell.OpenCell, declared.cell_lifetime.NoNewCaller.NoNewCaller, declared.cell_lifetime.NoNewCaller.TheVariants.{NoneLeft, NoShare}, declared.cell_lifetime.NotClosed.NotClosed, declared.cell_lifetime.NotClosed.TheVariants.{NotAllBack, Shared}, OpenCells.TakesIn, Places.{place_of, Between, HasWoken}}
 
 module _ {O P C R : Type 0} {g : Ghosts O P C R} {call_eq : Eq C} {call_default : Default C} {reply_eq : Eq R} {reply_default : Default R} where
   -- nothing was done
@@ -17,7 +17,7 @@ module _ {O P C R : Type 0} {g : Ghosts O P C R} {call_eq : Eq C} {call_default 
   -- a caller has the last of the passes
   pub record HasNewCaller (before : OpenCell O P C R g call_eq call_default reply_eq reply_default) (caller : Caller O P C R g call_eq call_default reply_eq reply_default) (after : OpenCell O P C R g call_eq call_default reply_eq reply_default) : Type 0 where
     pub pass : Pass O P C R g call_eq call_default reply_eq reply_default
-    pub idle : place_of caller.place ≡ Some (at.Idle pass)
+    pub idle : place_of (arc_value caller.cell) caller.place ≡ Some (idle_caller (arc_value caller.cell) pass)
     pub of : arc_value caller.cell ≡ arc_value before.cell
     pub cell : arc_value after.cell ≡ arc_value before.cell
     pub passes : before.passes.items ≡ after.passes.items ++ pass ∷ []
@@ -31,14 +31,15 @@ module _ {O P C R : Type 0} {g : Ghosts O P C R} {call_eq : Eq C} {call_default 
   IsNewCaller before (Err NoShare) after = IsSame before after × (0 < vec_len before.passes)
 
   -- the caller is idle, and its CPU is the lowest that wasn't returned yet
-  abbrev pub is_next : OpenCell O P C R g call_eq call_default reply_eq reply_default → CallerState O P C R g call_eq call_default reply_eq reply_default → Bool
-  is_next o (at.Idle p) = nat_lt o.back o.cpus && ((view_of_pass p).caller.acting == o.back)
-  is_next o state = false
+  abbrev pub is_next : OpenCell O P C R g call_eq call_default reply_eq reply_default → AnyCaller O P C R g call_eq call_default reply_eq reply_default → Bool
+  is_next o p = is_idle (state_of_caller p) && (nat_lt o.back o.cpus && ((state_of_caller p).caller.acting == o.back))
 
   -- an idle caller's pass was taken in
   pub record HasReturned (before : OpenCell O P C R g call_eq call_default reply_eq reply_default) (caller : Caller O P C R g call_eq call_default reply_eq reply_default) (after : OpenCell O P C R g call_eq call_default reply_eq reply_default) : Type 0 where
     pub pass : Pass O P C R g call_eq call_default reply_eq reply_default
-    pub idle : place_of caller.place ≡ Some (at.Idle pass)
+    pub was : AnyCaller O P C R g call_eq call_default reply_eq reply_default
+    pub idle : place_of (arc_value before.cell) caller.place ≡ Some was
+    pub woken : HasWoken g was pass
     pub cell : arc_value after.cell ≡ arc_value before.cell
     pub passes : after.passes.items ≡ before.passes.items
     pub next : (view_of_pass pass).caller.acting ≡ before.back
@@ -48,7 +49,7 @@ module _ {O P C R : Type 0} {g : Ghosts O P C R} {call_eq : Eq C} {call_default 
   -- a caller was returned; or it isn't the next, is unchanged, and nothing was done
   abbrev pub IsReturned : OpenCell O P C R g call_eq call_default reply_eq reply_default → Caller O P C R g call_eq call_default reply_eq reply_default → Option (Caller O P C R g call_eq call_default reply_eq reply_default) → OpenCell O P C R g call_eq call_default reply_eq reply_default → Type 0
   IsReturned before caller None after = HasReturned before caller after
-  IsReturned before caller (Some left) after = IsSame before after × (arc_value left.cell ≡ arc_value caller.cell) × Between caller.place left.place (λ p q. (is_next before p ≡ false) × (q ≡ p))
+  IsReturned before caller (Some left) after = IsSame before after × (arc_value left.cell ≡ arc_value caller.cell) × Between (arc_value before.cell) caller.place left.place (λ p q. (is_next before p ≡ false) × (q ≡ p))
 
   -- all callers were returned, the pass of all CPUs has seen the log that is left, and each arrival in line has ended its hold
   pub record HasClosed (before : OpenCell O P C R g call_eq call_default reply_eq reply_default) (left : History O P C R) : Type 0 where

@@ -1,8 +1,5 @@
-pub mod CallerStates
-pub mod Steps
-pub mod Tries
+pub mod Callers
 pub mod Applies
-pub mod Arrivals
 pub mod Wholes
 pub mod OneCalls
 pub mod Facts
@@ -11,6 +8,7 @@ pub mod OpenCells
 pub mod Unused
 pub mod Ends
 pub mod Handles
+pub mod KernelCallers
 pub mod HandleContents
 pub mod Coding
 pub mod Codes

@@ -3,13 +3,13 @@ use Rattle.std.specs.{declared.cmp.PartialEq.{Ghosts as Eq}, declared.default.De
 use Rattle.event_log.specs.declared.object.SeqObject.{Ghosts}
 use Rattle.word_rule.specs.{declared.pass.Pass.Pass, Cell.{EachAt, Grows}, LockRuns.Extends, Passes.{view_of_pass, run_of_pass}}
 use Rattle.guarded_cell.specs.declared.cell.AnyCell.{AnyCell}
-use Rattle.cell_callers.specs.CallerStates.{IsOf, IsOne}
-use Rattle.cell_callers.specs.declared.caller_state.CallerState.TheVariants as at
+use Rattle.guarded_cell.specs.Kinds.{IsPassOf}
+use Rattle.cell_callers.specs.Callers.{IsOne}
 
 module _ {O P C R : Type 0} {g : Ghosts O P C R} {call_eq : Eq C} {call_default : Default C} {reply_eq : Eq R} {reply_default : Default R} where
   -- a pass of the cell that owns only that CPU
   pub record IsHome (cell : AnyCell O P C R) (cpu : ℕ) (p : Pass O P C R g call_eq call_default reply_eq reply_default) : Type 0 where
-    pub of : IsOf cell (at.Idle p)
+    pub of : IsPassOf cell p
     pub number : (view_of_pass p).caller.acting ≡ cpu
     pub one : IsOne (view_of_pass p).caller
 
@@ -19,7 +19,7 @@ module _ {O P C R : Type 0} {g : Ghosts O P C R} {call_eq : Eq C} {call_default 
 
   -- a pass of the cell that owns the first n CPUs
   pub record OwnsFirst (cell : AnyCell O P C R) (n : ℕ) (p : Pass O P C R g call_eq call_default reply_eq reply_default) : Type 0 where
-    pub of : IsOf cell (at.Idle p)
+    pub of : IsPassOf cell p
     pub owned : (k : ℕ) → k < n → (view_of_pass p).caller.owned k ≡ true
 
   -- the passes that were returned are one pass, of the first n CPUs, or none was returned yet

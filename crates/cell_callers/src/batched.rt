@@ -7,7 +7,7 @@ ghost use Rattle.std_alloc.specs.Arc.{arc_value};
 ghost use Rattle.guarded_cell.specs.{AnyCallers.{IsCallerOf, state_of_caller}, Kinds.IsHoldOf};
 ghost use Rattle.word_rule.specs.Passes.{state_of_hold};
 ghost use Rattle.kernel_object.specs.contracts.object.KernelObjectSeqObject.TheImpl.{ghosts};
-ghost use Rattle.cell_callers.specs.{Callers.KernelCell, BatchReports.{IsRepliedHeld, ReportsHeldBatch, ReportsBatchedAt, ReportsBatched}};
+ghost use Rattle.cell_callers.specs.{KernelCallers.KernelCell, BatchReports.{IsRepliedHeld, ReportsHeldBatch, ReportsBatchedAt, ReportsBatched}};
 
 use crate::Caller;
 use crate::batching::Replies;

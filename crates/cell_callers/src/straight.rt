@@ -3,13 +3,14 @@
 
 ghost use Rattle.std.specs.Prelude.{◌≡◌, true, None, Some};
 ghost use Rattle.guarded_cell.specs.declared.cell.AnyCell.TheVariants.{Ticket, Mcs};
+ghost use Rattle.guarded_cell.specs.Kinds.{IsHoldOf};
 ghost use Rattle.guarded_cell.specs.declared.any_caller.AnyCaller.TheVariants as callers;
 ghost use Rattle.ticket_lock.specs.declared.caller.TicketCaller.TheVariants as at_ticket;
 ghost use Rattle.mcs_lock.specs.declared.caller.McsCaller.TheVariants as at_mcs;
-ghost use Rattle.cell_callers.specs.{declared.report_codes.TheConstants.AGAIN, Callers.{IfMcs, IsOne, KernelCaller}, CallReports.{GoesBehind, HasEntered, IsEnteredOf, OneEntered, ReportsCalled, ReportsCalledAt}, Codes.{kept_code, looks_after}, Places.{IsAway, IsPlaceOf}};
+ghost use Rattle.cell_callers.specs.{declared.report_codes.TheConstants.AGAIN, Callers.{IfMcs, IsOne}, KernelCallers.{KernelCell, KernelState}, CallReports.{GoesBehind, HasLeft, IsRepliedUnder, ReportsCalled, ReportsCalledAt}, Codes.{kept_code, looks_after}, Places.{IsAway, IsPlaceOf}};
 ghost use Rattle.ticket_lock.specs.Passes.{IsPassOf as IsTicketPassOf};
-ghost use Rattle.mcs_lock.specs.Passes.{IsPassOf as IsMcsPassOf, IsBehindOf, IsPassingOf, state_of_behind, state_of_passing};
-ghost use Rattle.word_rule.specs.{Mcs.Steps.IsPass, Passes.state_of_pass};
+ghost use Rattle.mcs_lock.specs.{Arrivals.{IsRestedOf, state_of_rested}, Passes.{IsPassOf as IsMcsPassOf, IsHoldOf as IsMcsHoldOf, IsBehindOf, IsPassingOf, state_of_behind, state_of_passing}};
+ghost use Rattle.word_rule.specs.{Mcs.Steps.IsPass, Passes.{state_of_pass, state_of_hold}};
 ghost use Rattle.kernel_object.specs.contracts.object.KernelObjectSeqObject.TheImpl.{ghosts};
 ghost use Rattle.std_alloc.specs.Arc.{arc_value};
 
@@ -77,7 +78,7 @@ fn come_behind(
     requires one { IsOne (state_of_behind behind).caller }
     requires away { IsAway place.old }
     ensures place { IsPlaceOf any.now place.new }
-    ensures reports { (p : KernelCaller) → GoesBehind any.now p behind → ReportsCalledAt any.now call p (answered.old, looks.old) result place.new (answered.new, looks.new) }
+    ensures reports { (p : KernelState) → GoesBehind any.now p behind → ReportsCalledAt any.now call p (answered.old, looks.old) result place.new (answered.new, looks.new) }
 {
     let AnyCell::Mcs(cell) = any else {
         unreachable!()
@@ -115,7 +116,7 @@ fn pass_on(cell: &McsCell<KernelObject>, passing: Passing<KernelObject>) -> Pass
 fn shared_answer(hold: &mut Hold<KernelObject>, call: &KCall, answered: &mut Answered) -> u32
     ensures of { (cell : KernelCell) → IsHoldOf cell hold.old → IsHoldOf cell hold.new }
     ensures caller { (state_of_hold hold.new).caller ≡ (state_of_hold hold.old).caller }
-    ensures answered { IsAnswered call.now answered.old result answered.new hold.old hold.new }
+    ensures answered { IsRepliedUnder call.now answered.old result answered.new hold.old hold.new }
 {
     answer_code(apply_held(hold, call), DONE, LOG_FULL, answered)
 }
@@ -130,7 +131,7 @@ fn answer(
 ) -> u32
     ensures of { (cell : KernelCell) → IsHoldOf cell hold.old → IsHoldOf cell hold.new }
     ensures caller { (state_of_hold hold.new).caller ≡ (state_of_hold hold.old).caller }
-    ensures answered { IsAnswered call.now answered.old result answered.new hold.old hold.new }
+    ensures answered { IsRepliedUnder call.now answered.old result answered.new hold.old hold.new }
 {
     if is_named {
         answer_code(apply_held(hold, call), DONE, LOG_FULL, answered)

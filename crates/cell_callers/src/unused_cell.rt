@@ -2,7 +2,7 @@
 
 ghost use Rattle.std.specs.Prelude.{◌≡◌, ◌<◌, true, vec_len};
 ghost use Rattle.word_rule.specs.{Cell.{EachAt, stored}, Passes.view_of_pass};
-ghost use Rattle.cell_callers.specs.{CallerStates.fixed_of, Unused.{IsUnused, Covers}};
+ghost use Rattle.cell_callers.specs.{Callers.fixed_of, Unused.{IsUnused, Covers}};
 
 use event_log::{Logged, SeqObject};
 use guarded_cell::AnyCell;
