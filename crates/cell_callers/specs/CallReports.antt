@@ -5,7 +5,7 @@ use Rattle.kernel_object.specs.{declared.call.KCall.KCall, declared.call.KReply.
 use Rattle.word_rule.specs.{declared.progress.Progress.Progress, CallerState.CallerState, Passes.state_of_hold, Polls.{GoesThere, IsRelease}}
 use Rattle.mcs_lock.specs.{declared.cell.McsCell.McsCell, Passes.state_of_behind}
 use Rattle.guarded_cell.specs.{AnyCallers.state_of_caller, Kinds.kind_of}
-use Rattle.cell_callers.specs.{declared.call_numbers.Answered.Answered, declared.report_codes.TheConstants.{DONE, LOG_FULL}, declared.whole.Whole.Whole, declared.handle_content.HandleContent.HandleContent, Applies.IsHeldApply, KernelCallers.{KernelBehind, KernelCell, KernelHold, KernelPlace, KernelState}, Codes.{answer_code, call_code, has_looked, kept_code, looks_after}, HandleContents.IsCallIn, Places.{Between, place_of}, Wholes.IsCalled}
+use Rattle.cell_callers.specs.{declared.call_numbers.Answered.Answered, declared.whole.Whole.Whole, declared.handle_content.HandleContent.HandleContent, KernelCallers.{KernelBehind, KernelCell, KernelHold, KernelPlace, KernelState}, Codes.{call_code, has_looked, kept_code, looks_after}, HandleContents.IsCallIn, Places.{Between, place_of}, Wholes.IsCalled}
 use Rattle.guarded_cell.specs.declared.cell.AnyCell.TheVariants as cells
 
 abbrev state : KernelState → CallerState KernelObject KParams KCall KReply
@@ -14,10 +14,6 @@ state = state_of_caller
 -- the result, the reply and the looks are those of a call that reported this
 abbrev pub IsReportOf : Whole (Result KReply NoRoom) → Answered × ℕ → ℕ → Answered × ℕ → Type 0
 IsReportOf reported old n new = ((n, new.0) ≡ call_code old.0 reported) × (new.1 ≡ looks_after (has_looked reported) old.1)
-
--- the call was done under the hold, or the log was full: the result, and the reply before and after
-abbrev pub IsRepliedUnder : KCall → Answered → ℕ → Answered → KernelHold → KernelHold → Type 0
-IsRepliedUnder call old n new h k = (said : Result KReply NoRoom) × ((n, new) ≡ answer_code DONE LOG_FULL old said) × IsHeldApply ghosts h call said k
 
 -- the result of a call whose lock is released, or is still held
 abbrev pub left_code : Bool → ℕ → ℕ

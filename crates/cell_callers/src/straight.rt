@@ -7,14 +7,14 @@ ghost use Rattle.guarded_cell.specs.Kinds.{IsHoldOf};
 ghost use Rattle.guarded_cell.specs.declared.any_caller.AnyCaller.TheVariants as callers;
 ghost use Rattle.ticket_lock.specs.declared.caller.TicketCaller.TheVariants as at_ticket;
 ghost use Rattle.mcs_lock.specs.declared.caller.McsCaller.TheVariants as at_mcs;
-ghost use Rattle.cell_callers.specs.{declared.report_codes.TheConstants.AGAIN, Callers.{IfMcs, IsOne}, KernelCallers.{KernelCell, KernelState}, CallReports.{GoesBehind, HasLeft, IsRepliedUnder, ReportsCalled, ReportsCalledAt}, Codes.{kept_code, looks_after}, Places.{IsAway, IsPlaceOf}};
+ghost use Rattle.cell_callers.specs.{declared.report_codes.TheConstants.AGAIN, Callers.{IfMcs, IsOne}, KernelCallers.{KernelCell, KernelState}, CallReports.{GoesBehind, HasLeft, ReportsCalled, ReportsCalledAt}, Codes.{kept_code, looks_after}, Places.{IsAway, IsPlaceOf}};
 ghost use Rattle.ticket_lock.specs.Passes.{IsPassOf as IsTicketPassOf};
 ghost use Rattle.mcs_lock.specs.{Arrivals.{IsRestedOf, state_of_rested}, Passes.{IsPassOf as IsMcsPassOf, IsHoldOf as IsMcsHoldOf, IsBehindOf, IsPassingOf, state_of_behind, state_of_passing}};
 ghost use Rattle.word_rule.specs.{Mcs.Steps.IsPass, Passes.{state_of_pass, state_of_hold}};
 ghost use Rattle.kernel_object.specs.contracts.object.KernelObjectSeqObject.TheImpl.{ghosts};
 ghost use Rattle.std_alloc.specs.Arc.{arc_value};
 
-use crate::applying::apply_held;
+use crate::applying::{apply_held, shared_apply_held};
 use crate::call_numbers::Answered;
 use crate::place::put_in;
 use crate::report_codes::{AGAIN, DONE, LOG_FULL, answer_code, call_code, count_look, kept_code};
@@ -111,42 +111,12 @@ fn pass_on(cell: &McsCell<KernelObject>, passing: Passing<KernelObject>) -> Pass
     cell.pass_on(passing)
 }
 
-// Does the call under the hold and writes its reply, once in the library for the calls that aren't named.
-#[inline(never)]
-fn shared_answer(hold: &mut Hold<KernelObject>, call: &KCall, answered: &mut Answered) -> u32
-    ensures of { (cell : KernelCell) → IsHoldOf cell hold.old → IsHoldOf cell hold.new }
-    ensures caller { (state_of_hold hold.new).caller ≡ (state_of_hold hold.old).caller }
-    ensures answered { IsRepliedUnder call.now answered.old result answered.new hold.old hold.new }
-{
-    answer_code(apply_held(hold, call), DONE, LOG_FULL, answered)
-}
-
-// The same, in its place for a call that is named.
-#[inline]
-fn answer(
-    hold: &mut Hold<KernelObject>,
-    call: &KCall,
-    is_named: bool,
-    answered: &mut Answered,
-) -> u32
-    ensures of { (cell : KernelCell) → IsHoldOf cell hold.old → IsHoldOf cell hold.new }
-    ensures caller { (state_of_hold hold.new).caller ≡ (state_of_hold hold.old).caller }
-    ensures answered { IsRepliedUnder call.now answered.old result answered.new hold.old hold.new }
-{
-    if is_named {
-        answer_code(apply_held(hold, call), DONE, LOG_FULL, answered)
-    } else {
-        shared_answer(hold, call, answered)
-    }
-}
-
 #[inline]
 fn straight_ticket(
     cell: &TicketCell<KernelObject>,
     pass: Pass<KernelObject>,
     place: &mut CallerPlace<KernelObject>,
     call: KCall,
-    is_named: bool,
     answered: &mut Answered,
     looks: &mut u64,
 ) -> u32
@@ -158,7 +128,7 @@ fn straight_ticket(
 {
     match cell.arrive(pass) {
         Ok(mut hold) => {
-            let reported = answer(&mut hold, &call, is_named, answered);
+            let reported = answer_code(apply_held(&mut hold, &call), DONE, LOG_FULL, answered);
             place.pass = Some(cell.serve(hold));
             count_look(true, looks);
             reported
@@ -198,7 +168,6 @@ fn straight_mcs(
     rested: Rested<KernelObject>,
     place: &mut CallerPlace<KernelObject>,
     call: KCall,
-    is_named: bool,
     answered: &mut Answered,
     looks: &mut u64,
 ) -> u32
@@ -213,7 +182,7 @@ fn straight_mcs(
         Entered::Hold(hold) => hold,
         Entered::Behind(behind) => return come_behind(any, place, behind, call, answered, looks),
     };
-    let reported = answer(&mut hold, &call, is_named, answered);
+    let reported = answer_code(apply_held(&mut hold, &call), DONE, LOG_FULL, answered);
     leave_mcs(cell, hold, place, reported)
 }
 
@@ -240,17 +209,16 @@ fn from_pass(
         Entered::Hold(hold) => hold,
         Entered::Behind(behind) => return come_behind(any, place, behind, call, answered, looks),
     };
-    let reported = shared_answer(&mut hold, &call, answered);
+    let reported = shared_answer_code(apply_held(&mut hold, &call), DONE, LOG_FULL, answered);
     leave_mcs(cell, hold, place, reported)
 }
 
 /// Does a whole call, as far as it comes without waiting, and returns its result. The reply is written if it was done, and the look
-/// is counted. A call that is known when this is compiled is named: no code for other calls is executed then.
+/// is counted.
 #[inline]
 pub fn call_straight(
     caller: &mut Caller<KernelObject>,
     call: KCall,
-    is_named: bool,
     answered: &mut Answered,
     looks: &mut u64,
 ) -> u32
@@ -261,11 +229,11 @@ pub fn call_straight(
     let place = &mut caller.place;
     match any {
         AnyCell::Ticket(cell) => match replace(&mut place.pass, None) {
-            Some(pass) => straight_ticket(cell, pass, place, call, is_named, answered, looks),
+            Some(pass) => straight_ticket(cell, pass, place, call, answered, looks),
             None => go_on(any, place, call, answered, looks),
         },
         AnyCell::Mcs(cell) => match replace(&mut place.rested, None) {
-            Some(rested) => straight_mcs(any, cell, rested, place, call, is_named, answered, looks),
+            Some(rested) => straight_mcs(any, cell, rested, place, call, answered, looks),
             None => from_pass(any, cell, place, call, answered, looks),
         },
     }

@@ -73,13 +73,7 @@ pub extern "C" fn mc2_handle_apply(
 
 /// Performs that call, as `mc2_poll_call` does.
 #[inline]
-pub fn call_of(
-    caller: &mut Handle,
-    call: KCall,
-    is_named: bool,
-    answered: &mut Answered,
-    looks: &mut u64,
-) -> u32
+pub fn call_of(caller: &mut Handle, call: KCall, answered: &mut Answered, looks: &mut u64) -> u32
     ensures { ReportsCallOf call (content_of caller.old) (answered.old, looks.old) result (content_of caller.new) (answered.new, looks.new) }
 {
     // (by value: the contract of `at_content` doesn't say which value a borrow has after `at_content` has passed it on)
@@ -123,7 +117,7 @@ pub extern "C" fn mc2_poll_call(
     let Some(call) = called_of(asked) else {
         return NOT_FOUND;
     };
-    call_of(caller, call, false, answered, looks)
+    call_of(caller, call, answered, looks)
 }
 
 /// Performs 1 to 8 calls as one event, as far as this needs no waiting. The event ends with the first call whose reply refuses it.

@@ -27,7 +27,6 @@ pub extern "C" fn mc2_poll_enq(
     call_of(
         caller,
         KCall::Queue(QueueCall::Enq(thread)),
-        true,
         answered,
         looks,
     )
@@ -38,7 +37,7 @@ pub extern "C" fn mc2_poll_enq(
 pub extern "C" fn mc2_poll_deq(caller: &mut Handle, answered: &mut Answered, looks: &mut u64) -> u32
     ensures { ReportsCallOf (Queue queue.Deq) (content_of caller.old) (answered.old, looks.old) result (content_of caller.new) (answered.new, looks.new) }
 {
-    call_of(caller, KCall::Queue(QueueCall::Deq), true, answered, looks)
+    call_of(caller, KCall::Queue(QueueCall::Deq), answered, looks)
 }
 
 /// Puts the thread at the end of the ready list.
@@ -54,7 +53,6 @@ pub extern "C" fn mc2_poll_ready(
     call_of(
         caller,
         KCall::Sched(SchedCall::Ready(thread)),
-        true,
         answered,
         looks,
     )
@@ -69,5 +67,5 @@ pub extern "C" fn mc2_poll_next(
 ) -> u32
     ensures { ReportsCallOf (Sched sched.Next) (content_of caller.old) (answered.old, looks.old) result (content_of caller.new) (answered.new, looks.new) }
 {
-    call_of(caller, KCall::Sched(SchedCall::Next), true, answered, looks)
+    call_of(caller, KCall::Sched(SchedCall::Next), answered, looks)
 }
