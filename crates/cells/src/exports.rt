@@ -86,7 +86,6 @@ pub fn call_of(caller: &mut Handle, call: KCall, answered: &mut Answered, looks:
                 HandleContent::Caller(caller) => call_straight(
                     caller,
                     call,
-                    is_named,
                     &mut answered,
                     &mut looks,
                 ),
