@@ -209,7 +209,12 @@ fn from_pass(
         Entered::Hold(hold) => hold,
         Entered::Behind(behind) => return come_behind(any, place, behind, call, answered, looks),
     };
-    let reported = answer_code(apply_held(&mut hold, &call), DONE, LOG_FULL, answered);
+    let reported = answer_code(
+        shared_apply_held(&mut hold, &call),
+        DONE,
+        LOG_FULL,
+        answered,
+    );
     leave_mcs(cell, hold, place, reported)
 }
 

@@ -1,6 +1,6 @@
 -- What a poll or a try does at an MCS lock, step by step.
 use Rattle.std.specs.{declared.cmp.PartialEq.{Ghosts as Eq}, declared.default.Default.{Ghosts as Default}}
-use Rattle.std.proofs.Common.{◌≡◌, ◌∙◌, suc, true, false, true≢false, [], ◌∷◌, refl, sym, subst, arith}
+use Rattle.std.proofs.Common.{◌∙◌, suc, true, false, true≢false, [], ◌∷◌, refl, sym, subst, arith}
 use Rattle.event_log.specs.declared.object.SeqObject.{Ghosts}
 use Rattle.sound_run.specs.declared.lock_kind.LockKind.TheVariants.{Mcs}
 use Rattle.word_rule.specs.{declared.lock_kind.Stage.TheVariants.Idle, declared.hold.Hold.Hold, declared.pass.Pass.Pass, declared.progress.Polled.Polled, Cell.{Caller, Lawful}, CallerState.{CallerState, Moves}, LockRuns.Extends, OneHold.silently, Mcs.Steps.{IsClear, IsReady, IsTryEnter}, Passes.{view_of_hold, state_of_pass, state_of_hold}, Polls.{GoesTo, HasTried, IsPolled, IsStepThere, WasBusy}}
