@@ -70,3 +70,30 @@ pub fn one_call_is_answered<O: SeqObject>(
         LooksInVain O.SeqObject cell.now first.now call.now n m → IsCalled O.SeqObject cell.now m call.now (whole.Kept said looked) k → ReleasesLater O.SeqObject cell.now k later last.now →
         IfOk said (λ r. IsAnswered O.SeqObject (view_of first.now) (call.now ∷ []) (one_step call.now r) (view_of last.now)) × OnErr said (IsRefused O.SeqObject (view_of first.now) (view_of last.now)) }
 {}
+
+/// The same of a batch.
+pub fn one_batch_is_answered<O: SeqObject>(
+    cell: &AnyCell<O>,
+    first: &AnyCaller<O>,
+    last: &AnyCaller<O>,
+)
+    ensures done { (call : O.Call) (calls : List O.Call) (n : ℕ) (m : _) (said : Result (Steps O O.Params O.Call O.Reply) NoRoom) (looked : Bool) → is_idle (state_of_caller first.now) ≡ true →
+        LooksInVain O.SeqObject cell.now first.now call n m → IsBatched O.SeqObject cell.now m calls (whole.Done said looked) last.now →
+        IfOk said (λ s. IsAnswered O.SeqObject (view_of first.now) calls s (view_of last.now)) × OnErr said (IsRefused O.SeqObject (view_of first.now) (view_of last.now)) }
+    ensures kept { (call : O.Call) (calls : List O.Call) (n later : ℕ) (m k : _) (said : Result (Steps O O.Params O.Call O.Reply) NoRoom) (looked : Bool) → is_idle (state_of_caller first.now) ≡ true →
+        LooksInVain O.SeqObject cell.now first.now call n m → IsBatched O.SeqObject cell.now m calls (whole.Kept said looked) k → ReleasesLater O.SeqObject cell.now k later last.now →
+        IfOk said (λ s. IsAnswered O.SeqObject (view_of first.now) calls s (view_of last.now)) × OnErr said (IsRefused O.SeqObject (view_of first.now) (view_of last.now)) }
+{}
+
+/// The same of a call by a try that acquired the lock.
+pub fn one_try_is_answered<O: SeqObject>(
+    cell: &AnyCell<O>,
+    first: &AnyCaller<O>,
+    call: &O::Call,
+    last: &AnyCaller<O>,
+)
+    ensures done { (said : Result O.Reply NoRoom) → IsTryCalled O.SeqObject cell.now first.now call.now (tried.Done said) last.now →
+        IfOk said (λ r. IsAnswered O.SeqObject (view_of first.now) (call.now ∷ []) (one_step call.now r) (view_of last.now)) × OnErr said (IsRefused O.SeqObject (view_of first.now) (view_of last.now)) }
+    ensures kept { (later : ℕ) (k : _) (said : Result O.Reply NoRoom) → IsTryCalled O.SeqObject cell.now first.now call.now (tried.Kept said) k → ReleasesLater O.SeqObject cell.now k later last.now →
+        IfOk said (λ r. IsAnswered O.SeqObject (view_of first.now) (call.now ∷ []) (one_step call.now r) (view_of last.now)) × OnErr said (IsRefused O.SeqObject (view_of first.now) (view_of last.now)) }
+{}

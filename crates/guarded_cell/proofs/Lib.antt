@@ -8,3 +8,4 @@ pub mod HeldCalls
 pub mod ManyCallers
 pub mod ManyEnded
 pub mod RealTime
+pub mod PollsOfLocks

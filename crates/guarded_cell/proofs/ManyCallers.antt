@@ -1,5 +1,5 @@
 -- One more caller joins those that have joined already.
-use Rattle.std.proofs.{Common.{◌≡◌, ◌⊎◌, ⊎_elim, ℕ, ◌+◌, ◌<◌, ◌≤◌, true, List, [], ◌∷◌, ◌++◌, length, map, take, get_or, refl, sym, ◌∙◌, ap, subst, arith, length-append, slice_get, Some}, lemmas.Option.slice_get_within}
+use Rattle.std.proofs.{Common.{◌≡◌, ⊎_elim, ℕ, ◌+◌, ◌<◌, ◌≤◌, true, List, [], ◌∷◌, ◌++◌, length, map, take, get_or, refl, sym, ◌∙◌, ap, subst, arith, length-append, slice_get, Some}, lemmas.Option.slice_get_within}
 use Rattle.event_log.specs.{declared.object.SeqObject.Ghosts, declared.event.Event.Event}
 use Rattle.event_log.proofs.Lists.{get_push}
 use Rattle.word_rule.specs.{declared.view.TraceStep.TraceStep, Cell.{PassView, IsCaller}, LockRuns.Extends}

@@ -1,7 +1,7 @@
 //! A caller of a cell that keeps its own state, whichever lock the cell has.
 
 ghost use Rattle.std.specs.Prelude.{◌≡◌, false, IfOk, IfErr};
-ghost use Rattle.word_rule.specs.Polls.is_holding;
+ghost use Rattle.word_rule.specs.Polls.{is_holding};
 ghost use Rattle.guarded_cell.specs.declared.any_caller.AnyCaller.TheVariants as callers;
 ghost use Rattle.guarded_cell.specs.{AnyCallers.{IsCallerOf, holder, idle_caller, map_polled, state_of_caller}, Kinds.IsHoldOf};
 

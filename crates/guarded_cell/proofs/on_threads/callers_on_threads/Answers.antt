@@ -1,5 +1,5 @@
 use denote.{Exit.yes, Param.Send.{param_send, arg_send}}
-use Rattle.std.proofs.{Common.{rules, ◌≡◌, [], length, map, Vec, Global, ◌∙◌}, lemmas.List.length-map}
+use Rattle.std.proofs.{Common.{rules, ◌≡◌, length, map, Vec, Global, ◌∙◌}, lemmas.List.length-map}
 use Rattle.word_rule.specs.{Cell.cell_of, Passes.{view_of_pass, run_of_pass}}
 use Rattle.word_rule.proofs.Sends.{pass_send}
 use Rattle.guarded_cell.proofs.ManyEnded.{owns_each, carried_out, ordered_run}
