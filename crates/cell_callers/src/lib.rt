@@ -27,7 +27,8 @@ pub use applying::{apply, try_hold};
 pub use batched::batch_in_place;
 pub use batching::{Batch, Replies, write_calls};
 pub use call_law::{
-    one_batch_is_a_hold, one_call_is_a_hold, one_call_is_answered, one_try_is_a_hold,
+    one_batch_is_a_hold, one_batch_is_answered, one_call_is_a_hold, one_call_is_answered,
+    one_try_is_a_hold, one_try_is_answered,
 };
 pub use call_numbers::{Answered, Asked, called_of, shared_called_of};
 pub use caller::Caller;

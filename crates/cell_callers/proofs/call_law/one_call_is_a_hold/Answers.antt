@@ -1,4 +1,4 @@
-use Rattle.std.proofs.Common.{refl}
+use Rattle.std.proofs.Common.{true, false, refl}
 use Rattle.cell_callers.proofs.OneCalls.{one_call}
 use Rattle.cell_callers.proofs.call_law.one_call_is_a_hold.Goals as goal
 
