@@ -14,8 +14,13 @@ NUMBERS = [
     ("the most throttled callers that are counted", "MOST_CPUS", "MC2_PRIV_MOST_OTHERS", "MOST_OTHERS"),
     ("what a throttled caller adds to the count", "OUTSIDE", "throttled", "THROTTLED"),
 ]
-# A sentence that has a number, and the number's name there.
-SENTENCES = [(C, r"from the (\d+)th failed look", "MC2_PRIV_LONG_WAIT"), (C, r"\(looks mod (\d+)\)", "MC2_PRIV_ROUND")]
+# Forms of sentences that have a number, and the number's name in C. The header has the first two.
+SENTENCES = [
+    (r"from the (\d+)th failed look", "MC2_PRIV_LONG_WAIT"),
+    (r"\(looks mod (\d+)\)", "MC2_PRIV_ROUND"),
+    (r"\blook\s+(\d+)\s+on\b", "MC2_PRIV_LONG_WAIT"),
+    (r"After\s+(\d+)\s+failed\s+looks", "MC2_PRIV_LONG_WAIT"),
+]
 
 
 def value_of(name, text):
@@ -25,7 +30,7 @@ def value_of(name, text):
 
 
 def wrong_waiting(top):
-    """Each number that isn't in a source, or isn't the same in all of them."""
+    """Each number that isn't in a source, isn't the same in all of them, or is another one in a sentence."""
     texts = {file: (top / file).read_text(encoding="utf-8") for file in (RATTLE, C, RUST, LIMITS)}
     for what, *names in NUMBERS:
         files = LIMITS if names[0] == "MOST_CPUS" else RATTLE, C, RUST
@@ -34,7 +39,11 @@ def wrong_waiting(top):
         yield from (f"there is no {it}, {what}" for it in missing)
         if not missing and len({*values.values()}) > 1:
             yield f"{what} should be the same: " + ", ".join(f"{it} is {value}" for it, value in values.items())
-    for file, pattern, name in SENTENCES:
-        said = re.search(pattern, texts[file])
-        if not said or int(said[1]) != value_of(name, texts[file]):
-            yield f"{file}: the comment `{pattern}` should have the number {name}"
+    documents = {str(it.relative_to(top)): it.read_text(encoding="utf-8") for it in sorted(top.glob("docs/*.md"))}
+    for file, text in {C: texts[C], **documents}.items():
+        for pattern, name in SENTENCES:
+            said = [int(it) for it in re.findall(pattern, text)]
+            if said and {*said} != {value_of(name, texts[C])}:
+                yield f"{file}: {said[0]} where {name} is {value_of(name, texts[C])}, in a sentence as `{pattern}`"
+    missing = [pattern for pattern, _ in SENTENCES[:2] if not re.search(pattern, texts[C])]
+    yield from (f"{C} has no sentence as `{it}`" for it in missing)
