@@ -97,7 +97,7 @@ uint32_t mc2_release_step(struct mc2_caller *caller);
 // As mc2_try_acquire, without MC2_IRQ_OFF, but returns MC2_ACQUIRED_BY_LOOK in place of MC2_DONE. Looks at the lock once at most.
 uint32_t mc2_poll_try_acquire(struct mc2_caller *caller);
 
-// As mc2_apply, without MC2_IRQ_OFF.
+// As mc2_apply, without MC2_IRQ_OFF. It returns MC2_REFUSED also once mc2_release_step has begun to release the lock.
 uint32_t mc2_handle_apply(struct mc2_caller *caller, const struct mc2_call *call, struct mc2_reply *reply);
 
 // ---- Whole calls, without waiting
