@@ -82,8 +82,8 @@ uint32_t mc2_handle_drop_log(struct mc2_cell *cell);
 
 // ---- The lock, one step at a time
 
-// Performs the caller's next step towards the lock: one atomic operation on one word of it. If the caller's last whole call left an
-// MCS queue empty, the first step also reads the word of the tail.
+// Performs the caller's next step towards the lock: one atomic operation on one word of it. At an MCS lock the first step after a
+// whole call that left the queue empty also reads the tail.
 // Call it until it returns MC2_ACQUIRED or MC2_ACQUIRED_BY_LOOK. A caller in line must continue: there is no way back.
 // Returns  MC2_STEPPED: call again at once; MC2_AGAIN: pause first; MC2_ACQUIRED, MC2_ACQUIRED_BY_LOOK; MC2_REFUSED: it already
 //          holds the lock, or isn't a caller.
