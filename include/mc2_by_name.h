@@ -3,6 +3,8 @@
 // Each is as mc2_cell_call with that call: it acquires the lock, performs the call as one event of the log, and releases the lock.
 //   reply    out, on MC2_DONE: one of the replies named below; of those that refuse the call, the first that applies. On an object
 //            of another kind it is MC2_BADCALL.
+// mc2_queue_enq, mc2_queue_deq, mc2_sched_ready and mc2_sched_next are faster than mc2_cell_call, as the library has a function for
+// each of their calls. The others pass the call's number to mc2_cell_call.
 // Returns  MC2_DONE; MC2_LOG_FULL: nothing was done; MC2_REFUSED: the caller holds the lock.
 // Context  Blocks as mc2_acquire. Not in an interrupt handler.
 // Ordering Acquire, then release.
@@ -11,7 +13,8 @@
 #define MC2_BY_NAME_H
 
 // Internal: a call by its number.
-static inline uint32_t mc2_priv_call(struct mc2_caller *caller, uint32_t word, uint32_t first, uint32_t second, struct mc2_reply *reply) {
+static inline uint32_t mc2_priv_call(struct mc2_caller *caller, uint32_t word, uint32_t first, uint32_t second,
+                                     struct mc2_reply *reply) {
     struct mc2_call call = mc2_call_of(word, first, second);
     return mc2_cell_call(caller, &call, reply);
 }

@@ -109,8 +109,10 @@ static inline uint32_t mc2_caller_free(struct mc2_caller *caller) {
     return result;
 }
 
-// Creates the caller of the highest CPU number that has none: for (cpu = cpus; cpu-- > 0;) mc2_caller_open(&cell, &callers[cpu]);
-// Returns  MC2_DONE; MC2_REFUSED: every CPU has a caller, or the cell isn't open; MC2_NO_MEMORY. An error leaves nothing to free.
+// Creates the caller of the highest CPU number that has had none since the cell was opened, so this creates all:
+// for (cpu = cpus; cpu-- > 0;) mc2_caller_open(&cell, &callers[cpu]);
+// Returns  MC2_DONE; MC2_REFUSED: every CPU has or had a caller, or the cell isn't open; MC2_NO_MEMORY. An error leaves nothing to
+//          free.
 static inline uint32_t mc2_caller_open(struct mc2_cell *cell, struct mc2_caller *caller) {
     uint32_t result = mc2_priv_caller_alloc(cell, caller);
     if (result == MC2_DONE)

@@ -61,9 +61,9 @@ uint32_t mc2_handle_free(struct mc2_handle handle);
 // Returns  MC2_DONE; MC2_REFUSED: the handle isn't empty; MC2_NO_MEMORY, MC2_BAD_PARAM: it still is: use it again or free it.
 uint32_t mc2_handle_open_cell(struct mc2_cell *cell, const struct mc2_cell_opening *opening);
 
-// Creates, in the empty handle `caller`, the caller of the highest CPU number that has none.
-// Returns  MC2_DONE; MC2_REFUSED: the cell isn't open, each of its CPUs has a caller, or `caller` isn't empty; MC2_NO_MEMORY: the
-//          cell is shared by 2^63 callers.
+// Creates, in the empty handle `caller`, the caller of the highest CPU number that has had none since the cell was opened.
+// Returns  MC2_DONE; MC2_REFUSED: the cell isn't open, each of its CPUs has or had a caller, or `caller` isn't empty; MC2_NO_MEMORY:
+//          the cell is shared by 2^63 callers.
 uint32_t mc2_handle_open_caller(struct mc2_cell *cell, struct mc2_caller *caller);
 
 // Returns an idle caller to its cell; the caller's handle is then empty. That it is the caller's own cell isn't checked.
@@ -82,7 +82,8 @@ uint32_t mc2_handle_drop_log(struct mc2_cell *cell);
 
 // ---- The lock, one step at a time
 
-// Performs the caller's next step towards the lock: one atomic operation on one word of it.
+// Performs the caller's next step towards the lock: one atomic operation on one word of it. At an MCS lock the first step after a
+// whole call that left the queue empty also reads the tail.
 // Call it until it returns MC2_ACQUIRED or MC2_ACQUIRED_BY_LOOK. A caller in line must continue: there is no way back.
 // Returns  MC2_STEPPED: call again at once; MC2_AGAIN: pause first; MC2_ACQUIRED, MC2_ACQUIRED_BY_LOOK; MC2_REFUSED: it already
 //          holds the lock, or isn't a caller.
@@ -96,7 +97,7 @@ uint32_t mc2_release_step(struct mc2_caller *caller);
 // As mc2_try_acquire, without MC2_IRQ_OFF, but returns MC2_ACQUIRED_BY_LOOK in place of MC2_DONE. Looks at the lock once at most.
 uint32_t mc2_poll_try_acquire(struct mc2_caller *caller);
 
-// As mc2_apply, without MC2_IRQ_OFF.
+// As mc2_apply, without MC2_IRQ_OFF. It returns MC2_REFUSED also once mc2_release_step has begun to release the lock.
 uint32_t mc2_handle_apply(struct mc2_caller *caller, const struct mc2_call *call, struct mc2_reply *reply);
 
 // ---- Whole calls, without waiting
@@ -108,7 +109,8 @@ uint32_t mc2_handle_apply(struct mc2_caller *caller, const struct mc2_call *call
 //          MC2_DONE_HELD, MC2_LOG_FULL_HELD: as without HELD, but a successor hasn't linked itself yet, so the lock is still
 //          held. Release it by mc2_release or mc2_release_step.
 //          MC2_NOT_FOUND: there is no such call. A caller in line stays there.
-//          MC2_REFUSED: the caller holds the lock, is between single steps before its first look, or isn't a caller.
+//          MC2_REFUSED: the caller holds the lock, isn't a caller, or has begun to enter an MCS queue by mc2_acquire_step and
+//          hasn't linked itself yet.
 uint32_t mc2_poll_call(struct mc2_caller *caller, const struct mc2_call *call, struct mc2_reply *reply, uint64_t *looks);
 
 // The same for 1 to 8 calls, performed in order as one event. The event ends with the first call whose reply refuses it.
@@ -122,7 +124,8 @@ uint32_t mc2_poll_batch(struct mc2_caller *caller, const struct mc2_batch *batch
 uint32_t mc2_poll_try_call(struct mc2_caller *caller, const struct mc2_call *call, struct mc2_reply *reply);
 
 // The calls MC2_ENQ, MC2_DEQ, MC2_READY and MC2_NEXT, as mc2_poll_call performs them. These are faster: the call is known when the
-// library is compiled. At an object of another kind the call is an event too, with the reply MC2_BADCALL.
+// library is compiled. At an object of another kind the call is an event too, with the reply MC2_BADCALL. Make every other call by
+// mc2_poll_call.
 uint32_t mc2_poll_enq(struct mc2_caller *caller, uint32_t thread, struct mc2_reply *reply, uint64_t *looks);
 uint32_t mc2_poll_deq(struct mc2_caller *caller, struct mc2_reply *reply, uint64_t *looks);
 uint32_t mc2_poll_ready(struct mc2_caller *caller, uint32_t thread, struct mc2_reply *reply, uint64_t *looks);

@@ -87,6 +87,12 @@ static void each_call(uint32_t kind) {
     mc2_cell_free(&cell, NULL, 0);
 }
 
+/* The number of threads in the queue, by the call's number and without waiting. */
+static uint32_t poll_len(struct mc2_caller *caller, struct mc2_reply *reply, uint64_t *looks) {
+    struct mc2_call len = mc2_call_of(MC2_LEN, 0, 0);
+    return mc2_poll_call(caller, &len, reply, looks);
+}
+
 /* The third caller joins the line after the second, whose call is held up by it. */
 static void held(struct mc2_caller *second, struct mc2_caller *third) {
     struct mc2_reply reply = {NO_REPLY, 0};
@@ -94,10 +100,10 @@ static void held(struct mc2_caller *second, struct mc2_caller *third) {
     must(mc2_acquire_step(third), MC2_STEPPED, "clearing, or drawing");
     if (lock == MC2_MCS)
         must(mc2_acquire_step(third), MC2_STEPPED, "entering");
-    must(mc2_poll_len(second, &reply, &looks), lock == MC2_MCS ? MC2_DONE_HELD : MC2_DONE, "a call that continues");
+    must(poll_len(second, &reply, &looks), lock == MC2_MCS ? MC2_DONE_HELD : MC2_DONE, "a call that continues");
     must_be(reply.word == MC2_COUNT && reply.number == 1 && looks == 1, "its reply, by one look");
     if (lock == MC2_MCS) {
-        must(mc2_poll_len(second, &reply, &looks), MC2_REFUSED, "a call by the holder");
+        must(poll_len(second, &reply, &looks), MC2_REFUSED, "a call by the holder");
         must(mc2_release_step(second), MC2_AGAIN, "releasing before the other has linked itself");
         must(mc2_acquire_step(third), MC2_STEPPED, "arming");
         must(mc2_acquire_step(third), MC2_STEPPED, "linking");
@@ -117,9 +123,9 @@ static void in_line(void) {
     must(mc2_queue_enq(&callers[0], FIRST, &reply), MC2_DONE, "a call");
     must(mc2_try_acquire(&callers[0]), MC2_DONE, "a try");
     reply.word = NO_REPLY, looks = 0;
-    must(mc2_poll_len(&callers[0], &reply, &looks), MC2_REFUSED, "a call by the holder");
+    must(poll_len(&callers[0], &reply, &looks), MC2_REFUSED, "a call by the holder");
     must(mc2_queue_len(&callers[0], &reply), MC2_REFUSED, "the same, if it may wait");
-    must(mc2_poll_len(&callers[1], &reply, &looks), MC2_AGAIN, "a call that has to wait");
+    must(poll_len(&callers[1], &reply, &looks), MC2_AGAIN, "a call that has to wait");
     must(mc2_poll_enq(&callers[1], FIRST, &reply, &looks), MC2_AGAIN, "another, which has to wait too");
     must_be(looks == 2 && reply.word == NO_REPLY, "two looks, and no reply");
     must(mc2_release(&callers[0]), MC2_DONE, "releasing");

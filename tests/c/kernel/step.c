@@ -76,18 +76,11 @@ uint32_t mc2_poll_call(struct mc2_caller *caller, const struct mc2_call *call, s
     uint32_t mc2_poll_##name(struct mc2_caller *caller, struct mc2_reply *reply, uint64_t *looks) { \
         return mc2_poll_call(caller, NULL, reply, looks); \
     }
-#define NAMED_WITH(name, type) \
-    uint32_t mc2_poll_##name(struct mc2_caller *caller, type first, struct mc2_reply *reply, uint64_t *looks) { \
-        return (void)first, mc2_poll_call(caller, NULL, reply, looks); \
+#define NAMED_OF_THREAD(name) \
+    uint32_t mc2_poll_##name(struct mc2_caller *caller, uint32_t thread, struct mc2_reply *reply, uint64_t *looks) { \
+        return (void)thread, mc2_poll_call(caller, NULL, reply, looks); \
     }
-#define NAMED_WITH_TWO(name) \
-    uint32_t mc2_poll_##name(struct mc2_caller *caller, uint32_t first, uint32_t second, struct mc2_reply *reply, uint64_t *looks) { \
-        return (void)first, (void)second, mc2_poll_call(caller, NULL, reply, looks); \
-    }
-NAMED(deq) NAMED(len) NAMED(left) NAMED(get) NAMED(level) NAMED(next)
-NAMED_WITH(enq, uint32_t) NAMED_WITH(remove, uint32_t) NAMED_WITH(alloc, uint32_t) NAMED_WITH(put, uint8_t)
-NAMED_WITH(ready, uint32_t) NAMED_WITH(wake, uint32_t) NAMED_WITH(wakeall, uint32_t)
-NAMED_WITH_TWO(free) NAMED_WITH_TWO(sleep)
+NAMED(deq) NAMED(next) NAMED_OF_THREAD(enq) NAMED_OF_THREAD(ready)
 
 uint32_t mc2_poll_batch(struct mc2_caller *caller, const struct mc2_batch *batch, struct mc2_replies *replies, uint64_t *looks) {
     return (void)caller, (void)batch, (void)replies, (void)looks, answer(&to_batch, MC2_DONE_HELD);
