@@ -1,8 +1,0 @@
-use Rattle.std.proofs.Common.{subst}
-use Rattle.cell_callers.specs.Wholes.{IsTryCalled}
-use Rattle.cell_callers.proofs.caller.Caller.try_call.Goals as goal
-
-pub returns-clause-called : goal.returns-clause-called
-returns-clause-called g c =
-    let done = c.try_call-state in
-    (c.take.result, done.result.0, c.take.ensures.state, c.put.ensures, subst (λ z. IsTryCalled g.O.SeqObject z c.take.result c.args.asked.now done.result.1 done.result.0) c.deref.ensures done.ensures.called)
