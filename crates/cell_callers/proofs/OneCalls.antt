@@ -197,19 +197,16 @@ module _ {O P C R : Type 0} (g : Ghosts O P C R) (call_eq : Eq C) (call_default 
   releases hold before c p zero q gone h = back_left g hold before (kind_of c) (state p) (state q) gone h
   releases hold before c p (suc j) q gone h = releases hold before c gone.0 j q gone.2 (⊎_elim (λ s. back_stepped g hold before (kind_of c) (state p) (state gone.0) s h) (λ s. back_vain g hold before (kind_of c) (state p) (state gone.0) s h) gone.1)
 
-  goes_home : (c : AnyCell O P C R) (k : TheHold) (is_back : Bool) (q last : TheCaller) → IsRelease g state (kind_of c) (state_of_hold k) is_back (state q) → Ends c is_back q last → Released (view_of_hold k) (run_of_hold k) (state last)
-  goes_home c k is_back q last = by is_back
-    where
-      held : Held (view_of_hold k) (run_of_hold k) (state_of_hold k)
-      held = record { done = []; since = record { since = (refl, extends_self (view_of_hold k).caller.owned (run_of_hold k)); seen = k.holds.ran.left; has = refl }; unended = refl; stays = refl; blind = refl }
+  held_now : (k : TheHold) → Held (view_of_hold k) (run_of_hold k) (state_of_hold k)
+  held_now k = record { done = []; since = record { since = (refl, extends_self (view_of_hold k).caller.owned (run_of_hold k)); seen = k.holds.ran.left; has = refl }; unended = refl; stays = refl; blind = refl }
 
-      by : (b : Bool) → IsRelease g state (kind_of c) (state_of_hold k) b (state q) → Ends c b q last → Released (view_of_hold k) (run_of_hold k) (state last)
-      by true r same =
-          let e = goes_back g (view_of_hold k) (run_of_hold k) state (kind_of c) (state_of_hold k) r.0 reported.Left (state q) r.1 held in
-          subst (λ z. Released (view_of_hold k) (run_of_hold k) (state z)) (sym same) (back_left g (view_of_hold k) (run_of_hold k) (kind_of c) e.0 (state q) e.1 e.2)
-      by false r more =
-          let e = goes_back g (view_of_hold k) (run_of_hold k) state (kind_of c) (state_of_hold k) r.0 reported.Stepped (state q) r.1 held in
-          releases (view_of_hold k) (run_of_hold k) c q more.0 last more.1 (back_stepped g (view_of_hold k) (run_of_hold k) (kind_of c) e.0 (state q) e.1 e.2)
+  goes_home : (is_back : Bool) (c : AnyCell O P C R) (k : TheHold) (q last : TheCaller) → IsRelease g state (kind_of c) (state_of_hold k) is_back (state q) → Ends c is_back q last → Released (view_of_hold k) (run_of_hold k) (state last)
+  goes_home true c k q last r same =
+      let e = goes_back g (view_of_hold k) (run_of_hold k) state (kind_of c) (state_of_hold k) r.0 reported.Left (state q) r.1 (held_now k) in
+      subst (λ z. Released (view_of_hold k) (run_of_hold k) (state z)) (sym same) (back_left g (view_of_hold k) (run_of_hold k) (kind_of c) e.0 (state q) e.1 e.2)
+  goes_home false c k q last r more =
+      let e = goes_back g (view_of_hold k) (run_of_hold k) state (kind_of c) (state_of_hold k) r.0 reported.Stepped (state q) r.1 (held_now k) in
+      releases (view_of_hold k) (run_of_hold k) c q more.0 last more.1 (back_stepped g (view_of_hold k) (run_of_hold k) (kind_of c) e.0 (state q) e.1 e.2)
 
   module _ (first last : CallerState O P C R) (looks : ℕ) (h k : TheHold) (once : IsOnce first last looks h k) where
     leaves : (events : List (Event O P C R)) → (view_of_hold k).caller ≡ (view_of_hold h).caller → run_of_hold k ≡ run_of_hold h → (view_of_hold k).history.log ≡ (view_of_hold h).history.log ++ events → HasHeld first.caller first.run looks events last.run
@@ -250,7 +247,7 @@ module _ {O P C R : Type 0} (g : Ghosts O P C R) (call_eq : Eq C) (call_default 
       let e = goes_there g f state (kind_of c) n (state m) w.steps (got_by looked) (state_of_hold w.got) w.there came in
       record {
         got = one_got g f (kind_of c) looked n w.got.inside.logged e.0 (state_of_hold w.got) e.1 refl w.got.holds.ran.left e.2;
-        gone = goes_home c w.held.left is_back q last w.held.back ends;
+        gone = goes_home is_back c w.held.left q last w.held.back ends;
       }
 
   pub one_call : (c : AnyCell O P C R) (first last : TheCaller) (call : C) (n : ℕ) (m q : TheCaller) (said : Result R NoRoom) (looked is_back : Bool) → is_idle (state first) ≡ true → LooksInVain g c first call n m → HasCalledWhole g (λ h k. IsHeldApply g h call said k) c m looked is_back q → Ends c is_back q last
@@ -265,6 +262,6 @@ module _ {O P C R : Type 0} (g : Ghosts O P C R) (call_eq : Eq C) (call_default 
       → HasHeldAtOnce (state first).caller (state first).run (left_by_call (state first).caller.acting call said) (state last).run × Sees g (one_step call) (call ∷ []) said (state first) (state last)
   one_try c first last call q said is_back w ends =
       let t = w.there.1 in
-      let once : IsOnce (state first) (state last) t.run.0 w.got w.held.left = record { got = (t.run.2, t.caller, t.grows); gone = goes_home c w.held.left is_back q last w.held.back ends } in
+      let once : IsOnce (state first) (state last) t.run.0 w.got w.held.left = record { got = (t.run.2, t.caller, t.grows); gone = goes_home is_back c w.held.left q last w.held.back ends } in
       let e = by_call (state first) (state last) t.run.0 w.got w.held.left once call said w.held.done in
       ((t.run.0, t.run.1, e.0), e.1)
