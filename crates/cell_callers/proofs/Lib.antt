@@ -1,5 +1,4 @@
 pub mod Arrivals
-pub mod AsBox
 pub mod BatchCodes
 pub mod Batches
 pub mod Homes

@@ -2,7 +2,7 @@
 use Rattle.std.specs.Prelude.{◌≡◌, ℕ, Bool, true, false, List, Result}
 use Rattle.event_log.specs.declared.logged.NoRoom.{NoRoom}
 use Rattle.kernel_object.specs.{declared.call.KCall.KCall, contracts.object.KernelObjectSeqObject.TheImpl.ghosts}
-use Rattle.cell_callers.specs.{declared.batching.Replies.Replies, declared.report_codes.TheConstants.{DONE, LOG_FULL, DONE_HELD, LOG_FULL_HELD}, declared.handle_content.HandleContent.HandleContent, declared.whole.Whole.Whole, Applies.IsHeldBatch, BatchCodes.{ReportsAll, ReportsWhole}, Codes.{looks_after, has_looked}, KernelCallers.{KernelCell, KernelHold, KernelPlace, KernelState, KernelSteps}, HandleContents.IsBatchIn, Places.Between, Wholes.{IsBatched, IsHeldCall}}
+use Rattle.cell_callers.specs.{declared.batching.Replies.Replies, declared.report_codes.TheConstants.{DONE, LOG_FULL, DONE_HELD, LOG_FULL_HELD}, declared.caller_content.CallerContent.CallerContent, declared.whole.Whole.Whole, Applies.IsHeldBatch, BatchCodes.{ReportsAll, ReportsWhole}, Codes.{looks_after, has_looked}, KernelCallers.{KernelCell, KernelHold, KernelPlace, KernelState, KernelSteps}, CallerContents.IsBatchIn, Places.Between, Wholes.{IsBatched, IsHeldCall}}
 
 -- the calls were done under the hold, or the log was full: the result, and the replies before and after
 abbrev pub IsRepliedHeld : List KCall → Replies → ℕ → Replies → KernelHold → KernelHold → Type 0
@@ -26,5 +26,5 @@ abbrev pub ReportsBatched : KernelCell → List KCall → KernelPlace → Replie
 ReportsBatched cell calls before old n after new = (reported : Whole (Result KernelSteps NoRoom)) × ReportsWhole reported n old.0 new.0 × (new.1 ≡ looks_after (has_looked reported) old.1) × Between cell before after (λ p q. IsBatched ghosts cell p calls reported q)
 
 -- and for the content of a handle
-abbrev pub ReportsBatchIn : List KCall → HandleContent → Replies × ℕ → ℕ → HandleContent → Replies × ℕ → Type 0
+abbrev pub ReportsBatchIn : List KCall → CallerContent → Replies × ℕ → ℕ → CallerContent → Replies × ℕ → Type 0
 ReportsBatchIn calls before old n after new = (reported : Whole (Result KernelSteps NoRoom)) × ReportsWhole reported n old.0 new.0 × (new.1 ≡ looks_after (has_looked reported) old.1) × IsBatchIn calls before reported after

@@ -5,7 +5,7 @@ use Rattle.kernel_object.specs.{declared.call.KCall.KCall, declared.call.KReply.
 use Rattle.word_rule.specs.{declared.progress.Progress.Progress, CallerState.CallerState, Passes.state_of_hold, Polls.{GoesThere, IsRelease}}
 use Rattle.mcs_lock.specs.{declared.cell.McsCell.McsCell, Passes.state_of_behind}
 use Rattle.guarded_cell.specs.{AnyCallers.state_of_caller, Kinds.kind_of}
-use Rattle.cell_callers.specs.{declared.call_numbers.Answered.Answered, declared.whole.Whole.Whole, declared.handle_content.HandleContent.HandleContent, KernelCallers.{KernelBehind, KernelCell, KernelHold, KernelPlace, KernelState}, Codes.{call_code, has_looked, kept_code, looks_after}, HandleContents.IsCallIn, Places.{Between, place_of}, Wholes.IsCalled}
+use Rattle.cell_callers.specs.{declared.call_numbers.Answered.Answered, declared.whole.Whole.Whole, declared.caller_content.CallerContent.CallerContent, KernelCallers.{KernelBehind, KernelCell, KernelHold, KernelPlace, KernelState}, Codes.{call_code, has_looked, kept_code, looks_after}, CallerContents.IsCallIn, Places.{Between, place_of}, Wholes.IsCalled}
 use Rattle.guarded_cell.specs.declared.cell.AnyCell.TheVariants as cells
 
 abbrev state : KernelState → CallerState KernelObject KParams KCall KReply
@@ -36,5 +36,5 @@ abbrev pub ReportsCalled : KernelCell → KCall → KernelPlace → Answered × 
 ReportsCalled cell call before old n after new = (reported : Whole (Result KReply NoRoom)) × IsReportOf reported old n new × Between cell before after (λ p q. IsCalled ghosts cell p call reported q)
 
 -- the same for the content of a handle
-abbrev pub ReportsCallOf : KCall → HandleContent → Answered × ℕ → ℕ → HandleContent → Answered × ℕ → Type 0
+abbrev pub ReportsCallOf : KCall → CallerContent → Answered × ℕ → ℕ → CallerContent → Answered × ℕ → Type 0
 ReportsCallOf call before old n after new = (reported : Whole (Result KReply NoRoom)) × IsReportOf reported old n new × IsCallIn call before reported after

@@ -7,9 +7,8 @@ pub mod Places
 pub mod OpenCells
 pub mod Unused
 pub mod Ends
-pub mod Handles
 pub mod KernelCallers
-pub mod HandleContents
+pub mod CellContents
 pub mod Coding
 pub mod Codes
 pub mod BatchCodes

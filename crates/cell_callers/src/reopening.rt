@@ -3,30 +3,25 @@
 ghost use Rattle.cell_callers.specs.Reopenings.{IsReopenedBy, IsForgotten};
 
 use crate::opening::{NotOpened, cpus_numbered, lock_numbered};
-use crate::{HandleContent, OpenCell};
+use crate::{CellContent, OpenCell};
 use std::alloc::Global;
 
-impl HandleContent {
+impl CellContent {
     /// Opens a new cell of that lock and number of CPUs, on the object of a closed one. The log continues.
-    pub fn reopen(
-        self,
-        alloc: Global,
-        lock: u32,
-        cpus: u32,
-    ) -> (HandleContent, Result<(), NotOpened>)
+    pub fn reopen(self, alloc: Global, lock: u32, cpus: u32) -> (CellContent, Result<(), NotOpened>)
         ensures { IsReopenedBy self lock cpus result.1 result.0 }
     {
         match self {
-            HandleContent::Ended(logged) => {
+            CellContent::Ended(logged) => {
                 let Some(lock) = lock_numbered(lock) else {
-                    return (HandleContent::Ended(logged), Err(NotOpened::BadOpening));
+                    return (CellContent::Ended(logged), Err(NotOpened::BadOpening));
                 };
                 let Some(cpus) = cpus_numbered(cpus) else {
-                    return (HandleContent::Ended(logged), Err(NotOpened::BadOpening));
+                    return (CellContent::Ended(logged), Err(NotOpened::BadOpening));
                 };
                 match OpenCell::open(alloc, lock, logged, cpus) {
-                    Ok(cell) => (HandleContent::Cell(cell), Ok(())),
-                    Err(logged) => (HandleContent::Ended(logged), Err(NotOpened::OutOfMemory)),
+                    Ok(cell) => (CellContent::Cell(cell), Ok(())),
+                    Err(logged) => (CellContent::Ended(logged), Err(NotOpened::OutOfMemory)),
                 }
             }
             other => (other, Err(NotOpened::NotEmpty)),
@@ -34,11 +29,11 @@ impl HandleContent {
     }
 
     /// Stops keeping the log of a closed cell, which then has room for 2^64 - 1 events.
-    pub fn forget(self, alloc: Global) -> (HandleContent, bool)
+    pub fn forget(self, alloc: Global) -> (CellContent, bool)
         ensures { IsForgotten self result.1 result.0 }
     {
         match self {
-            HandleContent::Ended(logged) => (HandleContent::Ended(logged.into_unkept(alloc)), true),
+            CellContent::Ended(logged) => (CellContent::Ended(logged.into_unkept(alloc)), true),
             other => (other, false),
         }
     }

@@ -1,12 +1,13 @@
 //! The exports that take a caller: single steps of the lock, tries and whole calls.
 
-ghost use Rattle.cells.specs.Exports.{content_of, ReportsAcquireStep, ReportsReleaseStep, ReportsTry, ReportsApply, ReportsCall, ReportsBatch, ReportsTryCall};
+ghost use Rattle.cells.specs.Exports.{caller_of, ReportsAcquireStep, ReportsReleaseStep, ReportsTry, ReportsApply, ReportsCall, ReportsBatch, ReportsTryCall};
 
 use arrayvec::ArrayVec;
+use c_handle::{at_content, at_content_with};
 use cell_callers::{
-    Answered, Asked, BUSY, Batch, DONE, DONE_HELD, Handle, HandleContent, LOG_FULL, LOG_FULL_HELD,
-    NOT_FOUND, REFUSED, Replies, TriedCall, at_content, batch_in_place, call_straight, called_of,
-    progress_code, shared_answer_code, shared_called_of, try_code, write_calls,
+    Answered, Asked, BUSY, Batch, CallerContent, CallerHandle, DONE, DONE_HELD, LOG_FULL,
+    LOG_FULL_HELD, NOT_FOUND, REFUSED, Replies, TriedCall, batch_in_place, call_straight,
+    called_of, progress_code, shared_answer_code, shared_called_of, try_code, write_calls,
 };
 use event_log::MOST_CALLS;
 use kernel_object::KCall;
@@ -15,12 +16,12 @@ use kernel_object::KCall;
 /// Returns STEPPED: call again at once; AGAIN: pause first; ACQUIRED, ACQUIRED_BY_LOOK; REFUSED: it already holds the lock, or
 /// isn't a caller.
 #[unsafe(no_mangle)]
-pub extern "C" fn mc2_acquire_step(caller: &mut Handle) -> u32
-    ensures { ReportsAcquireStep (content_of caller.old) result (content_of caller.new) }
+pub extern "C" fn mc2_acquire_step(caller: &mut CallerHandle) -> u32
+    ensures { ReportsAcquireStep (caller_of caller.old) result (caller_of caller.new) }
 {
     progress_code(at_content(caller, (), |content, ()| match content {
-        HandleContent::Caller(caller) => caller.acquire_step(),
-        _ => None,
+        CallerContent::Caller(caller) => caller.acquire_step(),
+        CallerContent::Empty => None,
     }))
 }
 
@@ -28,24 +29,24 @@ pub extern "C" fn mc2_acquire_step(caller: &mut Handle) -> u32
 /// Returns STEPPED; AGAIN: a successor has entered an MCS queue and hasn't linked itself yet; RELEASED; REFUSED: it doesn't hold
 /// the lock, or isn't a caller.
 #[unsafe(no_mangle)]
-pub extern "C" fn mc2_release_step(caller: &mut Handle) -> u32
-    ensures { ReportsReleaseStep (content_of caller.old) result (content_of caller.new) }
+pub extern "C" fn mc2_release_step(caller: &mut CallerHandle) -> u32
+    ensures { ReportsReleaseStep (caller_of caller.old) result (caller_of caller.new) }
 {
     progress_code(at_content(caller, (), |content, ()| match content {
-        HandleContent::Caller(caller) => caller.release_step(),
-        _ => None,
+        CallerContent::Caller(caller) => caller.release_step(),
+        CallerContent::Empty => None,
     }))
 }
 
 /// Acquires the lock if no one holds it or is in line, by one look at most.
 /// Returns ACQUIRED_BY_LOOK; BUSY: nothing was done; REFUSED: the caller isn't idle, or isn't a caller.
 #[unsafe(no_mangle)]
-pub extern "C" fn mc2_poll_try_acquire(caller: &mut Handle) -> u32
-    ensures { ReportsTry (content_of caller.old) result (content_of caller.new) }
+pub extern "C" fn mc2_poll_try_acquire(caller: &mut CallerHandle) -> u32
+    ensures { ReportsTry (caller_of caller.old) result (caller_of caller.new) }
 {
     try_code(at_content(caller, (), |content, ()| match content {
-        HandleContent::Caller(caller) => caller.try_hold(),
-        _ => None,
+        CallerContent::Caller(caller) => caller.try_hold(),
+        CallerContent::Empty => None,
     }))
 }
 
@@ -53,18 +54,18 @@ pub extern "C" fn mc2_poll_try_acquire(caller: &mut Handle) -> u32
 /// Returns DONE: the reply is written; LOG_FULL, NOT_FOUND: nothing was done; REFUSED: it doesn't hold the lock.
 #[unsafe(no_mangle)]
 pub extern "C" fn mc2_handle_apply(
-    caller: &mut Handle,
+    caller: &mut CallerHandle,
     asked: &Asked,
     answered: &mut Answered,
 ) -> u32
-    ensures { ReportsApply (content_of caller.old) asked.now answered.old result (content_of caller.new) answered.new }
+    ensures { ReportsApply (caller_of caller.old) asked.now answered.old result (caller_of caller.new) answered.new }
 {
     let Some(call) = shared_called_of(asked) else {
         return NOT_FOUND;
     };
     match at_content(caller, &call, |content, call| match content {
-        HandleContent::Caller(caller) => caller.apply(call),
-        _ => None,
+        CallerContent::Caller(caller) => caller.apply(call),
+        CallerContent::Empty => None,
     }) {
         Some(done) => shared_answer_code(done, DONE, LOG_FULL, answered),
         None => REFUSED,
@@ -73,30 +74,24 @@ pub extern "C" fn mc2_handle_apply(
 
 /// Performs that call, as `mc2_poll_call` does.
 #[inline]
-pub fn call_of(caller: &mut Handle, call: KCall, answered: &mut Answered, looks: &mut u64) -> u32
-    ensures { ReportsCallOf call (content_of caller.old) (answered.old, looks.old) result (content_of caller.new) (answered.new, looks.new) }
+pub fn call_of(
+    caller: &mut CallerHandle,
+    call: KCall,
+    answered: &mut Answered,
+    looks: &mut u64,
+) -> u32
+    ensures { ReportsCallOf call (caller_of caller.old) (answered.old, looks.old) result (caller_of caller.new) (answered.new, looks.new) }
 {
-    // (by value: the contract of `at_content` doesn't say which value a borrow has after `at_content` has passed it on)
-    let (reported, said, looked) = at_content(
+    at_content_with(
         caller,
-        (call, *answered, *looks),
-        |content, (call, answered, looks)| {
-            let (mut answered, mut looks) = (answered, looks);
-            let reported = match content {
-                HandleContent::Caller(caller) => call_straight(
-                    caller,
-                    call,
-                    &mut answered,
-                    &mut looks,
-                ),
-                _ => REFUSED,
-            };
-            (reported, answered, looks)
+        call,
+        answered,
+        looks,
+        |content, call, answered, looks| match content {
+            CallerContent::Caller(caller) => call_straight(caller, call, answered, looks),
+            CallerContent::Empty => REFUSED,
         },
-    );
-    *answered = said;
-    *looks = looked;
-    reported
+    )
 }
 
 /// Acquires the lock, performs the call as one event, and releases the lock, as far as this needs no waiting. A look adds 1 to
@@ -106,12 +101,12 @@ pub fn call_of(caller: &mut Handle, call: KCall, answered: &mut Answered, looks:
 /// itself yet; NOT_FOUND: there is no such call; REFUSED: the caller isn't idle or at a look.
 #[unsafe(no_mangle)]
 pub extern "C" fn mc2_poll_call(
-    caller: &mut Handle,
+    caller: &mut CallerHandle,
     asked: &Asked,
     answered: &mut Answered,
     looks: &mut u64,
 ) -> u32
-    ensures { ReportsCall (content_of caller.old) asked.now (answered.old, looks.old) result (content_of caller.new) (answered.new, looks.new) }
+    ensures { ReportsCall (caller_of caller.old) asked.now (answered.old, looks.old) result (caller_of caller.new) (answered.new, looks.new) }
 {
     let Some(call) = called_of(asked) else {
         return NOT_FOUND;
@@ -124,12 +119,12 @@ pub extern "C" fn mc2_poll_call(
 /// done. The replies are written if the event was performed.
 #[unsafe(no_mangle)]
 pub extern "C" fn mc2_poll_batch(
-    caller: &mut Handle,
+    caller: &mut CallerHandle,
     batch: &Batch,
     replies: &mut Replies,
     looks: &mut u64,
 ) -> u32
-    ensures { ReportsBatch (content_of caller.old) batch.now (replies.old, looks.old) result (content_of caller.new) (replies.new, looks.new) }
+    ensures { ReportsBatch (caller_of caller.old) batch.now (replies.old, looks.old) result (caller_of caller.new) (replies.new, looks.new) }
 {
     if batch.count == 0 || batch.count > MOST_CALLS as u32 {
         return REFUSED;
@@ -138,45 +133,34 @@ pub extern "C" fn mc2_poll_batch(
     if !write_calls(batch, &mut calls) {
         return NOT_FOUND;
     }
-    // (by value: the contract of `at_content` doesn't say which value a borrow has after `at_content` has passed it on)
-    let (reported, said, looked) = at_content(
+    at_content_with(
         caller,
-        (calls.as_slice(), *replies, *looks),
-        |content, (calls, replies, looks)| {
-            let (mut replies, mut looks) = (replies, looks);
-            let reported = match content {
-                HandleContent::Caller(caller) => batch_in_place(
-                    caller,
-                    calls,
-                    &mut replies,
-                    &mut looks,
-                ),
-                _ => REFUSED,
-            };
-            (reported, replies, looks)
+        calls.as_slice(),
+        replies,
+        looks,
+        |content, calls, replies, looks| match content {
+            CallerContent::Caller(caller) => batch_in_place(caller, calls, replies, looks),
+            CallerContent::Empty => REFUSED,
         },
-    );
-    *replies = said;
-    *looks = looked;
-    reported
+    )
 }
 
 /// Performs a whole call if no one holds the lock or is in line. It never joins the line.
 /// Returns as `mc2_poll_call`, with BUSY in place of AGAIN: nothing was done. REFUSED: the caller isn't idle, or isn't a caller.
 #[unsafe(no_mangle)]
 pub extern "C" fn mc2_poll_try_call(
-    caller: &mut Handle,
+    caller: &mut CallerHandle,
     asked: &Asked,
     answered: &mut Answered,
 ) -> u32
-    ensures { ReportsTryCall (content_of caller.old) asked.now answered.old result (content_of caller.new) answered.new }
+    ensures { ReportsTryCall (caller_of caller.old) asked.now answered.old result (caller_of caller.new) answered.new }
 {
     let Some(call) = shared_called_of(asked) else {
         return NOT_FOUND;
     };
     match at_content(caller, &call, |content, call| match content {
-        HandleContent::Caller(caller) => caller.try_call(call),
-        _ => TriedCall::Refused,
+        CallerContent::Caller(caller) => caller.try_call(call),
+        CallerContent::Empty => TriedCall::Refused,
     }) {
         TriedCall::Done(done) => shared_answer_code(done, DONE, LOG_FULL, answered),
         TriedCall::Kept(done) => shared_answer_code(done, DONE_HELD, LOG_FULL_HELD, answered),

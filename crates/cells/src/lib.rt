@@ -10,8 +10,8 @@ pub use exports::{
     mc2_poll_try_call, mc2_release_step,
 };
 pub use handles::{
-    mc2_handle_alloc, mc2_handle_close_cell, mc2_handle_drop_log, mc2_handle_free,
-    mc2_handle_open_caller, mc2_handle_open_cell, mc2_handle_read_step, mc2_handle_reopen_cell,
-    mc2_handle_return_caller,
+    mc2_handle_alloc_caller, mc2_handle_alloc_cell, mc2_handle_close_cell, mc2_handle_drop_log,
+    mc2_handle_free_caller, mc2_handle_free_cell, mc2_handle_open_caller, mc2_handle_open_cell,
+    mc2_handle_read_step, mc2_handle_reopen_cell, mc2_handle_return_caller,
 };
 pub use names::{mc2_poll_deq, mc2_poll_enq, mc2_poll_next, mc2_poll_ready};

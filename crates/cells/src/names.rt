@@ -1,15 +1,15 @@
 //! The calls by name that C has on a caller, for those that are made most. Each performs a whole call and returns as
-//! `mc2_poll_call` does. The call is known when the library is compiled, so no code for other calls is executed. At an object of another kind it is an event too, with
-//! the reply `badcall`.
+//! `mc2_poll_call` does. The call is known when the library is compiled, so no code for other calls is executed. At an object of
+//! another kind it is an event too, with the reply `badcall`.
 
-ghost use Rattle.cells.specs.Exports.{content_of};
+ghost use Rattle.cells.specs.Exports.{caller_of};
 ghost use Rattle.cell_callers.specs.CallReports.{ReportsCallOf};
 ghost use Rattle.kernel_object.specs.declared.call.KCall.TheVariants.{Queue, Sched};
 ghost use Rattle.shared_queue.specs.declared.call.QueueCall.TheVariants as queue;
 ghost use Rattle.wake_list.specs.declared.call.SchedCall.TheVariants as sched;
 
 use crate::exports::call_of;
-use cell_callers::{Answered, Handle};
+use cell_callers::{Answered, CallerHandle};
 use kernel_object::KCall;
 use shared_queue::QueueCall;
 use wake_list::SchedCall;
@@ -17,12 +17,12 @@ use wake_list::SchedCall;
 /// Puts the thread at the end of a queue.
 #[unsafe(no_mangle)]
 pub extern "C" fn mc2_poll_enq(
-    caller: &mut Handle,
+    caller: &mut CallerHandle,
     thread: u32,
     answered: &mut Answered,
     looks: &mut u64,
 ) -> u32
-    ensures { ReportsCallOf (Queue (queue.Enq thread)) (content_of caller.old) (answered.old, looks.old) result (content_of caller.new) (answered.new, looks.new) }
+    ensures { ReportsCallOf (Queue (queue.Enq thread)) (caller_of caller.old) (answered.old, looks.old) result (caller_of caller.new) (answered.new, looks.new) }
 {
     call_of(
         caller,
@@ -34,8 +34,12 @@ pub extern "C" fn mc2_poll_enq(
 
 /// Takes the first thread of a queue.
 #[unsafe(no_mangle)]
-pub extern "C" fn mc2_poll_deq(caller: &mut Handle, answered: &mut Answered, looks: &mut u64) -> u32
-    ensures { ReportsCallOf (Queue queue.Deq) (content_of caller.old) (answered.old, looks.old) result (content_of caller.new) (answered.new, looks.new) }
+pub extern "C" fn mc2_poll_deq(
+    caller: &mut CallerHandle,
+    answered: &mut Answered,
+    looks: &mut u64,
+) -> u32
+    ensures { ReportsCallOf (Queue queue.Deq) (caller_of caller.old) (answered.old, looks.old) result (caller_of caller.new) (answered.new, looks.new) }
 {
     call_of(caller, KCall::Queue(QueueCall::Deq), answered, looks)
 }
@@ -43,12 +47,12 @@ pub extern "C" fn mc2_poll_deq(caller: &mut Handle, answered: &mut Answered, loo
 /// Puts the thread at the end of the ready list.
 #[unsafe(no_mangle)]
 pub extern "C" fn mc2_poll_ready(
-    caller: &mut Handle,
+    caller: &mut CallerHandle,
     thread: u32,
     answered: &mut Answered,
     looks: &mut u64,
 ) -> u32
-    ensures { ReportsCallOf (Sched (sched.Ready thread)) (content_of caller.old) (answered.old, looks.old) result (content_of caller.new) (answered.new, looks.new) }
+    ensures { ReportsCallOf (Sched (sched.Ready thread)) (caller_of caller.old) (answered.old, looks.old) result (caller_of caller.new) (answered.new, looks.new) }
 {
     call_of(
         caller,
@@ -61,11 +65,11 @@ pub extern "C" fn mc2_poll_ready(
 /// Takes the first ready thread.
 #[unsafe(no_mangle)]
 pub extern "C" fn mc2_poll_next(
-    caller: &mut Handle,
+    caller: &mut CallerHandle,
     answered: &mut Answered,
     looks: &mut u64,
 ) -> u32
-    ensures { ReportsCallOf (Sched sched.Next) (content_of caller.old) (answered.old, looks.old) result (content_of caller.new) (answered.new, looks.new) }
+    ensures { ReportsCallOf (Sched sched.Next) (caller_of caller.old) (answered.old, looks.old) result (caller_of caller.new) (answered.new, looks.new) }
 {
     call_of(caller, KCall::Sched(SchedCall::Next), answered, looks)
 }

@@ -1,0 +1,3 @@
+pub mod AsBox
+pub mod Moves
+pub mod Sends
