@@ -41,7 +41,7 @@
 //
 //   The library (mc2_cells_raw.h), by the contracts of crates/cells/README.md. None of its functions waits. The inline functions
 //   of this header are the wait loops around them; nothing is proved of these. No contract says the following, so you trust it:
-//   - mc2_handle_alloc stores a valid empty handle; mc2_handle_free frees all that a handle has, or leaves a caller unchanged;
+//   - mc2_handle_alloc_* store a valid empty handle; mc2_handle_free_* free all that a handle has, or leave a caller unchanged;
 //   - MC2_NO_MEMORY occurs only if memory was refused; opening writes the memory of a log; a cell without a log allocates none for
 //     it; dropping a log frees it;
 //   - a try returns MC2_BUSY only if another caller holds the lock or is in line for it;
@@ -95,7 +95,7 @@ static inline uint32_t mc2_priv_caller_alloc(struct mc2_cell *cell, struct mc2_c
     caller->impl = NULL;
     caller->waiters = &cell->waiters;
     caller->looks = 0;
-    return cell->impl ? MC2_ALLOCATING(mc2_handle_alloc(&caller->impl)) : (uint32_t)MC2_REFUSED;
+    return cell->impl ? MC2_ALLOCATING(mc2_handle_alloc_caller(&caller->impl)) : (uint32_t)MC2_REFUSED;
 }
 
 // Abandons an idle caller: frees it without returning it to its cell. Its CPU has no caller any more, and the cell can't be closed.
@@ -103,7 +103,7 @@ static inline uint32_t mc2_priv_caller_alloc(struct mc2_cell *cell, struct mc2_c
 // Returns  MC2_DONE; MC2_REFUSED: the caller is in line or holds the lock.
 static inline uint32_t mc2_caller_free(struct mc2_caller *caller) {
     struct mc2_handle handle = {caller->impl};
-    uint32_t result = caller->impl ? MC2_ALLOCATING(mc2_handle_free(handle)) : (uint32_t)MC2_DONE;
+    uint32_t result = caller->impl ? MC2_ALLOCATING(mc2_handle_free_caller(handle)) : (uint32_t)MC2_DONE;
     if (result == MC2_DONE)
         caller->impl = NULL;
     return result;
@@ -146,7 +146,7 @@ static inline void mc2_cell_free(struct mc2_cell *cell, struct mc2_caller *calle
     struct mc2_handle handle = {cell->impl};
     mc2_priv_callers_free(callers, count);
     if (cell->impl)
-        MC2_ALLOCATING(mc2_handle_free(handle));
+        MC2_ALLOCATING(mc2_handle_free_cell(handle));
     cell->impl = NULL;
 }
 
@@ -157,7 +157,7 @@ static inline uint32_t mc2_priv_cell_open(struct mc2_cell *cell, const struct mc
         opening.quotas[owner] = object->quotas ? object->quotas[owner] : object->size;
     cell->impl = NULL;
     cell->waiters.word = 0;
-    uint32_t result = MC2_ALLOCATING(mc2_handle_alloc(&cell->impl));
+    uint32_t result = MC2_ALLOCATING(mc2_handle_alloc_cell(&cell->impl));
     if (result == MC2_DONE)
         result = MC2_ALLOCATING(mc2_handle_open_cell(cell, &opening));
     if (result != MC2_DONE)

@@ -34,7 +34,7 @@ struct mc2_caller {
     uint64_t looks;
 };
 
-// The library's part of either, as mc2_handle_free takes it.
+// The library's part of either, as mc2_handle_free_cell and mc2_handle_free_caller take it.
 struct mc2_handle {
     void *impl;
 };
@@ -48,14 +48,17 @@ struct mc2_cell_opening {
 
 // ---- Handles
 
-// Allocates an empty handle and stores it in *impl. Free it once with mc2_handle_free, whatever later calls return. [heap]
-// Returns  MC2_DONE; MC2_NO_MEMORY: *impl is unchanged and there is nothing to free.
-uint32_t mc2_handle_alloc(void **impl);
+// Allocate an empty handle for a cell or a caller and store it in *impl. Free it once with the function of its sort, whatever later
+// calls return. [heap]
+// Return   MC2_DONE; MC2_NO_MEMORY: *impl is unchanged and there is nothing to free.
+uint32_t mc2_handle_alloc_cell(void **impl);
+uint32_t mc2_handle_alloc_caller(void **impl);
 
-// Frees a handle with everything that it has. [heap]
+// Free a handle with everything that it has. [heap]
 // Freeing an idle caller that wasn't returned leaves its CPU without a caller: that cell can't be closed any more.
-// Returns  MC2_DONE; MC2_REFUSED: it is a caller that is in line or holds the lock. Free it once it is idle.
-uint32_t mc2_handle_free(struct mc2_handle handle);
+// Return   MC2_DONE; MC2_REFUSED: it is a caller that is in line or holds the lock. Free it once it is idle.
+uint32_t mc2_handle_free_cell(struct mc2_handle handle);
+uint32_t mc2_handle_free_caller(struct mc2_handle handle);
 
 // Opens a cell in an empty handle. [heap]
 // Returns  MC2_DONE; MC2_REFUSED: the handle isn't empty; MC2_NO_MEMORY, MC2_BAD_PARAM: it still is: use it again or free it.

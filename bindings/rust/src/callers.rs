@@ -4,10 +4,10 @@ use crate::{Answer, Call, Cell, Error, Reply};
 use core::mem::{take, ManuallyDrop};
 
 /// One CPU's right to use a cell, for one thread at a time. Dropping it returns it to its cell.
-pub struct Caller<'c, K> { cell: &'c Cell<K>, cpu: u32, handle: ManuallyDrop<Handle>, looks: u64, is_held: bool }
+pub struct Caller<'c, K> { cell: &'c Cell<K>, cpu: u32, handle: ManuallyDrop<CallerHandle>, looks: u64, is_held: bool }
 
 impl<'c, K> Caller<'c, K> {
-    pub(crate) fn new(cell: &'c Cell<K>, cpu: u32, handle: Handle) -> Caller<'c, K> {
+    pub(crate) fn new(cell: &'c Cell<K>, cpu: u32, handle: CallerHandle) -> Caller<'c, K> {
         Caller { cell, cpu, handle: ManuallyDrop::new(handle), looks: 0, is_held: false }
     }
     /// Returns the caller's CPU, from 0.
@@ -50,7 +50,7 @@ impl<'c, K> Caller<'c, K> {
         self.is_held = mc2_poll_try_acquire(&mut self.handle) == ACQUIRED_BY_LOOK;
         self.is_held.then(|| Hold(self))
     }
-    fn whole(&mut self, mut step: impl FnMut(&mut Handle, &mut u64) -> u32) -> Result<(), Error> {
+    fn whole(&mut self, mut step: impl FnMut(&mut CallerHandle, &mut u64) -> u32) -> Result<(), Error> {
         self.release(0);
         self.cell.waiters.throttle();
         let (result, _) = self.cell.waiters.steps(|| step(&mut self.handle, &mut self.looks));

@@ -16,11 +16,11 @@ impl<K: Object> Cell<K> {
     /// `events` is the capacity of the log, 1 to 65,536: a full log stays full, and every later call returns `LogFull`. With 0 no
     /// log is kept, and it has room for 2^64 - 1 events. Errors: `NoMemory`; `BadParam`: a number is out of range.
     pub fn open(object: K, lock: LockKind, cpus: u32, events: u32) -> Result<Cell<K>, Error> {
-        let (opening, idle, mut cell) = (object.opening(lock, cpus, events), Idle::new(), Handle::new()?);
+        let (opening, idle, mut cell) = (object.opening(lock, cpus, events), Idle::new(), CellHandle::new()?);
         done(mc2_handle_open_cell(&mut cell, &opening))?;
         // The library creates the caller of the highest CPU first.
         for cpu in (0..cpus).rev() {
-            let mut caller = Handle::new()?;
+            let mut caller = CallerHandle::new()?;
             done(mc2_handle_open_caller(&mut cell, &mut caller))?;
             idle.put(cpu, caller);
         }
@@ -46,7 +46,7 @@ impl<K: Object> Cell<K> {
 }
 
 /// The log of a closed cell.
-pub struct Log<K> { cell: Handle, opening: Opening, kind: PhantomData<fn() -> K> }
+pub struct Log<K> { cell: CellHandle, opening: Opening, kind: PhantomData<fn() -> K> }
 
 impl<K> Log<K> {
     /// Reads one step of the log: its CPU, call and reply. Both numbers count from 0, and an event has 1 to 8 steps. Returns `None`

@@ -42,47 +42,62 @@ pub type LoggedStep = [u32; 6];
 #[derive(Default)]
 pub struct Batch<T> { pub count: u32, pub list: [T; 8] }
 
-/// What the library allocated for a cell or a caller. Dropping it frees that.
-#[repr(C)]
-pub struct Handle(NonNull<u8>);
-// SAFETY: a handle may be handed to another thread with everything that it has, as crates/cells/README.md says.
-unsafe impl Send for Handle {}
+macro_rules! handle {
+    ($(#[$about:meta])* $name:ident, $alloc:ident, $free:ident) => {
+        $(#[$about])*
+        #[repr(C)]
+        pub struct $name(NonNull<u8>);
+        // SAFETY: a handle may be handed to another thread with everything that it has, as crates/cells/README.md says.
+        unsafe impl Send for $name {}
+
+        impl $name {
+            pub fn new() -> Result<$name, Error> {
+                let mut place = null_mut();
+                done($alloc(&mut place))?;
+                NonNull::new(place).map($name).ok_or(Error::NoMemory)
+            }
+        }
+
+        impl Drop for $name {
+            fn drop(&mut self) {
+                // SAFETY: nobody uses a handle after its drop. A caller that isn't idle is refused, and its memory isn't freed.
+                unsafe { $free(ManuallyDrop::new($name(self.0))) };
+            }
+        }
+    };
+}
+
+handle!(
+    /// What the library allocated for a cell. Dropping it frees that.
+    CellHandle, mc2_handle_alloc_cell, mc2_handle_free_cell
+);
+handle!(
+    /// What the library allocated for a caller. Dropping it frees that.
+    CallerHandle, mc2_handle_alloc_caller, mc2_handle_free_caller
+);
 
 // SAFETY: as the header declares them. A function is safe if its types ensure the header's obligations: the handle was allocated,
 // no other call uses it, and nobody else touches the places that are written. Other misuse returns MC2_REFUSED.
 unsafe extern "C" {
-    safe fn mc2_handle_alloc(place: &mut *mut u8) -> u32;
-    fn mc2_handle_free(handle: ManuallyDrop<Handle>) -> u32;
-    pub safe fn mc2_handle_open_cell(cell: &mut Handle, opening: &Opening) -> u32;
-    pub safe fn mc2_handle_open_caller(cell: &mut Handle, caller: &mut Handle) -> u32;
-    pub safe fn mc2_acquire_step(caller: &mut Handle) -> u32;
-    pub safe fn mc2_release_step(caller: &mut Handle) -> u32;
-    pub safe fn mc2_poll_try_acquire(caller: &mut Handle) -> u32;
-    pub safe fn mc2_handle_apply(caller: &mut Handle, call: &CallWords, reply: &mut ReplyWords) -> u32;
-    pub safe fn mc2_poll_call(caller: &mut Handle, call: &CallWords, reply: &mut ReplyWords, looks: &mut u64) -> u32;
+    safe fn mc2_handle_alloc_cell(place: &mut *mut u8) -> u32;
+    safe fn mc2_handle_alloc_caller(place: &mut *mut u8) -> u32;
+    fn mc2_handle_free_cell(handle: ManuallyDrop<CellHandle>) -> u32;
+    fn mc2_handle_free_caller(handle: ManuallyDrop<CallerHandle>) -> u32;
+    pub safe fn mc2_handle_open_cell(cell: &mut CellHandle, opening: &Opening) -> u32;
+    pub safe fn mc2_handle_open_caller(cell: &mut CellHandle, caller: &mut CallerHandle) -> u32;
+    pub safe fn mc2_acquire_step(caller: &mut CallerHandle) -> u32;
+    pub safe fn mc2_release_step(caller: &mut CallerHandle) -> u32;
+    pub safe fn mc2_poll_try_acquire(caller: &mut CallerHandle) -> u32;
+    pub safe fn mc2_handle_apply(caller: &mut CallerHandle, call: &CallWords, reply: &mut ReplyWords) -> u32;
+    pub safe fn mc2_poll_call(caller: &mut CallerHandle, call: &CallWords, reply: &mut ReplyWords, looks: &mut u64) -> u32;
     pub safe fn mc2_poll_batch(
-        caller: &mut Handle, batch: &Batch<CallWords>, replies: &mut Batch<ReplyWords>, looks: &mut u64,
+        caller: &mut CallerHandle, batch: &Batch<CallWords>, replies: &mut Batch<ReplyWords>, looks: &mut u64,
     ) -> u32;
-    pub safe fn mc2_poll_try_call(caller: &mut Handle, call: &CallWords, reply: &mut ReplyWords) -> u32;
+    pub safe fn mc2_poll_try_call(caller: &mut CallerHandle, call: &CallWords, reply: &mut ReplyWords) -> u32;
     // The caller has to be a caller of that cell, which the library doesn't check.
-    pub fn mc2_handle_return_caller(cell: &mut Handle, caller: &mut Handle) -> u32;
-    pub safe fn mc2_handle_close_cell(cell: &mut Handle) -> u32;
-    pub safe fn mc2_handle_read_step(cell: &mut Handle, event: usize, index: usize, step: &mut LoggedStep) -> u32;
-}
-
-impl Handle {
-    pub fn new() -> Result<Handle, Error> {
-        let mut place = null_mut();
-        done(mc2_handle_alloc(&mut place))?;
-        NonNull::new(place).map(Handle).ok_or(Error::NoMemory)
-    }
-}
-
-impl Drop for Handle {
-    fn drop(&mut self) {
-        // SAFETY: nobody uses a handle after its drop. A caller that isn't idle is refused, and its memory isn't freed.
-        unsafe { mc2_handle_free(ManuallyDrop::new(Handle(self.0))) };
-    }
+    pub fn mc2_handle_return_caller(cell: &mut CellHandle, caller: &mut CallerHandle) -> u32;
+    pub safe fn mc2_handle_close_cell(cell: &mut CellHandle) -> u32;
+    pub safe fn mc2_handle_read_step(cell: &mut CellHandle, event: usize, index: usize, step: &mut LoggedStep) -> u32;
 }
 
 /// The callers of a cell that aren't in use, by CPU.
@@ -90,11 +105,11 @@ pub struct Idle([AtomicPtr<u8>; 64]);
 
 impl Idle {
     pub fn new() -> Idle { Idle([const { AtomicPtr::new(null_mut()) }; 64]) }
-    pub fn put(&self, cpu: u32, caller: Handle) {
+    pub fn put(&self, cpu: u32, caller: CallerHandle) {
         self.0[cpu as usize].store(ManuallyDrop::new(caller).0.as_ptr(), SeqCst)
     }
-    pub fn take(&self, cpu: u32) -> Option<Handle> {
-        NonNull::new(self.0.get(cpu as usize)?.swap(null_mut(), SeqCst)).map(Handle)
+    pub fn take(&self, cpu: u32) -> Option<CallerHandle> {
+        NonNull::new(self.0.get(cpu as usize)?.swap(null_mut(), SeqCst)).map(CallerHandle)
     }
 }
 

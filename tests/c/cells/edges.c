@@ -18,7 +18,7 @@ static struct mc2_cell_opening opening_of(uint32_t events, uint32_t cpus) {
 
 static struct mc2_cell new_cell(void) {
     struct mc2_cell cell = {0};
-    must(mc2_handle_alloc(&cell.impl), MC2_DONE, "a handle");
+    must(mc2_handle_alloc_cell(&cell.impl), MC2_DONE, "a handle");
     must_be(cell.impl != NULL, "its pointer");
     return cell;
 }
@@ -262,7 +262,7 @@ static long refused_openings(uint32_t events, uint32_t cpus) {
     struct mc2_cell cell = {0};
     long at = 0;
     left = 0;
-    must(mc2_handle_alloc(&cell.impl), MC2_NO_MEMORY, "a handle without memory");
+    must(mc2_handle_alloc_cell(&cell.impl), MC2_NO_MEMORY, "a handle without memory");
     must_be(cell.impl == NULL && blocks == 0, "no pointer");
     left = MANY;
     cell = new_cell();

@@ -20,7 +20,7 @@ enum operation {
 static const char *const functions[KINDS] = {
     "mc2_acquire_step", "mc2_release_step", "mc2_poll_try_acquire", "mc2_handle_apply", "mc2_poll_call", "mc2_poll_enq",
     "mc2_poll_deq", "mc2_poll_ready", "mc2_poll_next", "mc2_poll_batch", "mc2_poll_try_call", "mc2_handle_return_caller",
-    "mc2_handle_free", "mc2_handle_close_cell", "mc2_handle_open_caller"};
+    "mc2_handle_free_caller", "mc2_handle_close_cell", "mc2_handle_open_caller"};
 static const char *const stages[STAGES] = {"idle",    "ready", "behind",  "armed",  "waiting",
                                            "holding", "alone", "leaving", "passing"};
 
@@ -162,7 +162,7 @@ static struct answer answer_of_library(const struct asked *asked) {
     case POLL_BATCH: answer.result = mc2_poll_batch(caller, &asked->batch, &replies, &looks); break;
     case TRY_CALL: answer.result = mc2_poll_try_call(caller, call, reply); break;
     case RETURN_CALLER: answer.result = mc2_handle_return_caller(&cell, caller); break;
-    case FREE_CALLER: answer.result = mc2_handle_free(handle); break;
+    case FREE_CALLER: answer.result = mc2_handle_free_caller(handle); break;
     case CLOSE_CELL: answer.result = mc2_handle_close_cell(&cell); break;
     default: answer.result = mc2_handle_open_caller(&cell, caller); break;
     }
@@ -237,18 +237,18 @@ static void reopen_cell(uint32_t lock) {
 
 static void open_cell(uint32_t lock) {
     struct mc2_cell_opening opening = {lock, MC2_QUEUE, 0, CALLERS, THREADS, 0, {0}};
-    must_return(mc2_handle_alloc(&cell.impl), MC2_DONE, "a handle of a cell");
+    must_return(mc2_handle_alloc_cell(&cell.impl), MC2_DONE, "a handle of a cell");
     must_return(mc2_handle_open_cell(&cell, &opening), MC2_DONE, "opening");
     for (uint32_t who = 0; who < CALLERS; who++)
-        must_return(mc2_handle_alloc(&callers[who].impl), MC2_DONE, "a handle of a caller");
+        must_return(mc2_handle_alloc_caller(&callers[who].impl), MC2_DONE, "a handle of a caller");
     model.lock = lock;
     open_callers();
 }
 
 static void free_all(void) {
     for (uint32_t who = 0; who < CALLERS; who++)
-        must_return(mc2_handle_free((struct mc2_handle){callers[who].impl}), MC2_DONE, "freeing a caller");
-    must_return(mc2_handle_free((struct mc2_handle){cell.impl}), MC2_DONE, "freeing the cell");
+        must_return(mc2_handle_free_caller((struct mc2_handle){callers[who].impl}), MC2_DONE, "freeing a caller");
+    must_return(mc2_handle_free_cell((struct mc2_handle){cell.impl}), MC2_DONE, "freeing the cell");
     must_be(blocks == 0, "all memory is freed");
 }
 

@@ -45,9 +45,13 @@ static uint32_t answer(unsigned *looks, uint32_t result) {
 
 static unsigned none, to_acquire, to_release, to_call, to_batch;
 
-uint32_t mc2_handle_alloc(void **impl) { return *impl = &calls, answer(&none, MC2_DONE); }
+uint32_t mc2_handle_alloc_cell(void **impl) { return *impl = &calls, answer(&none, MC2_DONE); }
 
-uint32_t mc2_handle_free(struct mc2_handle handle) { return (void)handle, answer(&none, MC2_DONE); }
+uint32_t mc2_handle_alloc_caller(void **impl) { return *impl = &calls, answer(&none, MC2_DONE); }
+
+uint32_t mc2_handle_free_cell(struct mc2_handle handle) { return (void)handle, answer(&none, MC2_DONE); }
+
+uint32_t mc2_handle_free_caller(struct mc2_handle handle) { return (void)handle, answer(&none, MC2_DONE); }
 
 uint32_t mc2_handle_open_cell(struct mc2_cell *cell, const struct mc2_cell_opening *opening) {
     return (void)cell, (void)opening, answer(&none, MC2_DONE);
