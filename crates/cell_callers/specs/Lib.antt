@@ -8,6 +8,7 @@ pub mod OpenCells
 pub mod Unused
 pub mod Ends
 pub mod KernelCallers
+pub mod CallerContents
 pub mod CellContents
 pub mod Coding
 pub mod Codes
@@ -17,6 +18,5 @@ pub mod BatchReports
 pub mod NewCells
 pub mod Openings
 pub mod LoggedSteps
-pub mod CellContents
 pub mod Reopenings
 pub mod CodeNumbers
