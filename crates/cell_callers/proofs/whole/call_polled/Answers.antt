@@ -1,0 +1,11 @@
+use Rattle.cell_callers.proofs.whole.call_polled.Goals as goal
+
+pub returns-in_default-default-true-clause-called : goal.returns-in_default-default-true-clause-called
+returns-in_default-default-true-clause-called g c = λ p polled.
+    let there = rw c.in-Held.is at polled in
+    record { steps = there.0; got = c.in-Held.hold; there = there.1; held = rw c.in_default-default-true at c.call_held.ensures.called }
+
+pub returns-in_default-default-false-clause-called : goal.returns-in_default-default-false-clause-called
+returns-in_default-default-false-clause-called g c = λ p polled.
+    let there = rw c.in-Held.is at polled in
+    record { steps = there.0; got = c.in-Held.hold; there = there.1; held = rw c.in_default-default-false at c.call_held.ensures.called }
