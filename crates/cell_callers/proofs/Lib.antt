@@ -3,6 +3,7 @@ pub mod AsBox
 pub mod BatchCodes
 pub mod Batches
 pub mod Homes
+pub mod Idle
 pub mod Sends
 pub mod JoinedPasses
 pub mod Places
