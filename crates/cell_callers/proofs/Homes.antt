@@ -8,7 +8,7 @@ use Rattle.event_log.proofs.Lists.{some_at, get_front, get_last}
 use Rattle.sound_run.specs.declared.lock_kind.LockKind.{LockKind}
 use Rattle.word_rule.specs.{declared.pass.Pass.Pass, Cell.{EachAt, OwnsAll, first_pass}, Passes.view_of_pass}
 use Rattle.guarded_cell.specs.{declared.cell.AnyCell.AnyCell, Kinds.IsPassOf}
-use Rattle.cell_callers.specs.{CallerStates.fixed_of, OpenCells.{IsHome, AreHome, OwnsFirst, IsBack}}
+use Rattle.cell_callers.specs.{Callers.fixed_of, OpenCells.{IsHome, AreHome, OwnsFirst, IsBack}}
 use Rattle.guarded_cell.specs.declared.cell.AnyCell.TheVariants as cells
 
 pub same_number : (a b : ℕ) → a ≡ b → (a == b) ≡ true

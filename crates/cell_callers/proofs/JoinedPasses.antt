@@ -9,7 +9,7 @@ use Rattle.sound_run.specs.declared.lock_kind.LockKind.{LockKind}
 use Rattle.word_rule.specs.{declared.pass.Pass.Pass, Cell.{EachAt, Grows, OwnsAll, cell_of, first_pass, stored}, Passes.view_of_pass}
 use Rattle.word_rule.proofs.Lists.{same_log, of_opening}
 use Rattle.guarded_cell.specs.{declared.cell.AnyCell.AnyCell, Kinds.IsPassOf}
-use Rattle.cell_callers.specs.{CallerStates.fixed_of, Unused.{IsUnused, Covers}}
+use Rattle.cell_callers.specs.{Callers.fixed_of, Unused.{IsUnused, Covers}}
 use Rattle.cell_callers.proofs.Homes.{reported_of, same_number}
 
 -- if all items of a list have something, so have all but the last, and the last

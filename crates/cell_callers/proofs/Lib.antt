@@ -2,6 +2,7 @@ pub mod Arrivals
 pub mod BatchCodes
 pub mod Batches
 pub mod Homes
+pub mod Idle
 pub mod Sends
 pub mod JoinedPasses
 pub mod Places

@@ -1,44 +1,55 @@
-use Rattle.std.proofs.{Common.{◌≡◌, ◌∙◌, ◌==◌, ◌&&◌, ◌≤◌, ℕ, nat_lt, false, ap, refl, sym, rules, arith, Some}, lemmas.Bool.Decides.nat_tests}
-use Rattle.word_rule.specs.Passes.{view_of_pass}
-use Rattle.cell_callers.specs.Ends.{is_next}
-use Rattle.cell_callers.proofs.open_cell.OpenCell.return_caller.Goals.{else-self-via-then-self+else-pass-from, else-self-via-else-self}
-use Rattle.cell_callers.specs.declared.caller_state.CallerState.TheVariants as at
+use Rattle.std.proofs.{Common.{◌≡◌, ◌∙◌, ◌==◌, ◌&&◌, ◌≤◌, ℕ, Bool, nat_lt, true, false, ap, refl, sym, subst, arith, IsSome, IfSome, Some}, lemmas.Bool.Decides.nat_tests}
+use Rattle.std_alloc.specs.Arc.{arc_value}
+use Rattle.word_rule.specs.{Passes.view_of_pass, Polls.is_idle}
+use Rattle.guarded_cell.specs.{AnyCallers.state_of_caller, Kinds.IsPassOf}
+use Rattle.cell_callers.specs.{Callers.IsOne, Ends.is_next, Places.{Between, HasWoken, place_of}}
+use Rattle.cell_callers.proofs.{Idle.{stands, shown_some, shown_none, wakes}, open_cell.OpenCell.return_caller.Goals.{then-self-via-then-self, then-self-via-else-self+then-cpu-from}}
 use Rattle.cell_callers.proofs.open_cell.OpenCell.return_caller.Goals as goal
 
 -- all callers are returned, or another is next
-past_all : (back cpus cpu : ℕ) → cpus ≤ back → (nat_lt back cpus && (cpu == back)) ≡ false
-past_all back cpus cpu all = grind (arith, nat_tests)
+past_all : (idle : Bool) (back cpus cpu : ℕ) → cpus ≤ back → (idle && (nat_lt back cpus && (cpu == back))) ≡ false
+past_all idle back cpus cpu all = grind (arith, nat_tests)
 
-not_here : (back cpus cpu : ℕ) → (cpu ≡ back → ⊥) → (nat_lt back cpus && (cpu == back)) ≡ false
-not_here back cpus cpu other = grind (arith, nat_tests)
-
-pub returns-then-pass-from : goal.returns-then-pass-from
-returns-then-pass-from g c =
-    let back = c.with_back.ensures in
-    record {
-      pass = c.in-Idle.pass;
-      idle = c.into_state.ensures ∙ ap Some c.in-Idle.is;
-      cell = back.cell;
-      passes = back.passes;
-      next = c.in-Idle.pass.idle.at.number ∙ (c.if-pass-from.true ∙ c.from.ensures);
-      home = back.home;
-      back = back.back;
-    }
-
-pub returns-else-self : goal.returns-else-self
-returns-else-self g c =
-    let self = c.args.self in
-    let pass = c.in-Idle.pass in
-    let number = pass.idle.at.number in
-    let other : is_next self (at.Idle pass) ≡ false = elim c.else-self.branch [
-      | else-self-via-then-self+else-pass-from w ↦ not_here self.back self.cpus (view_of_pass pass).caller.acting (λ e. w.if-pass-from.false (sym number ∙ (e ∙ sym w.from.ensures)))
-      | else-self-via-else-self w ↦ past_all self.back self.cpus (view_of_pass pass).caller.acting w.if-self.false
-    ] in
-    (record { cell = refl; passes = refl; home = refl; back = refl }, refl, (at.Idle pass, at.Idle pass, c.into_state.ensures ∙ ap Some c.in-Idle.is, c.of-place.ensures, (other, refl)))
+not_here : (idle : Bool) (back cpus cpu : ℕ) → (cpu ≡ back → ⊥) → (idle && (nat_lt back cpus && (cpu == back))) ≡ false
+not_here idle back cpus cpu other = grind (arith, nat_tests)
 
 pub returns-in_default : goal.returns-in_default
 returns-in_default g c =
-    let self = c.args.self in
-    let other : is_next self c.in_default.state ≡ false = search rules in
-    let state = c.into_state.result in
-    (record { cell = refl; passes = refl; home = refl; back = refl }, refl, (state, state, c.into_state.ensures, c.of-place-in_default.ensures, (ap (λ z. is_next self z) c.in_default.state-is ∙ other, refl)))
+    let place = c.args.caller.place in
+    let s = stands (arc_value c.args.self.cell) place.pass place.rested place.line (subst (λ z. IsSome (place_of z place)) c.requires c.args.caller.there) in
+    let none = shown_none (is_idle (state_of_caller s.caller)) _ (sym c.in_default.is ∙ (c.idle_cpu.ensures ∙ s.cpu)) in
+    (record { cell = refl; passes = refl; home = refl; back = refl }, refl, (s.caller, s.caller, s.is, s.is, (rw none, refl)))
+
+pub returns-then-self : goal.returns-then-self
+returns-then-self g c =
+    let place = c.args.caller.place in let self = c.args.self in
+    let s = stands (arc_value self.cell) place.pass place.rested place.line (subst (λ z. IsSome (place_of z place)) c.requires c.args.caller.there) in
+    let i = is_idle (state_of_caller s.caller) in let cpu = (state_of_caller s.caller).caller.acting in
+    let acts : cpu ≡ c.in-Some.cpu = shown_some i cpu c.in-Some.cpu (sym c.in-Some.is ∙ (c.idle_cpu.ensures ∙ s.cpu)) in
+    let other : (i && (nat_lt self.back self.cpus && (cpu == self.back))) ≡ false = elim c.then-self.branch [
+      | then-self-via-then-self w ↦ past_all i self.back self.cpus cpu w.if-self.true
+      | then-self-via-else-self+then-cpu-from w ↦ not_here i self.back self.cpus cpu (λ e. w.if-cpu-from.true (sym acts ∙ (e ∙ sym w.from.ensures)))
+    ] in
+    (record { cell = refl; passes = refl; home = refl; back = refl }, refl, (s.caller, s.caller, s.is, s.is, (other, refl)))
+
+pub with_back-requires-clause-pass : goal.with_back-requires-clause-pass
+with_back-requires-clause-pass g c =
+    let into = c.into_pass-pass in
+    let is = wakes c.args.caller c.deref.result.now c.in-Some.cpu into.result c.deref.ensures into.ensures.woken (sym c.idle_cpu.ensures ∙ c.in-Some.is) in
+    record { of = subst (λ z. IsPassOf z into.result) (c.deref.ensures ∙ c.requires) into.ensures.of; number = is.3 ∙ (c.if-cpu-from.false ∙ c.from.ensures); one = is.4 }
+
+pub returns : goal.returns
+returns g c =
+    let into = c.into_pass-pass in let back = c.with_back.ensures in
+    let is = wakes c.args.caller c.deref.result.now c.in-Some.cpu into.result c.deref.ensures into.ensures.woken (sym c.idle_cpu.ensures ∙ c.in-Some.is) in
+    record {
+      pass = into.result;
+      was = is.0;
+      idle = subst (λ z. place_of z c.args.caller.place ≡ Some is.0) c.requires is.1;
+      woken = is.2;
+      cell = back.cell;
+      passes = back.passes;
+      next = is.3 ∙ (c.if-cpu-from.false ∙ c.from.ensures);
+      home = back.home;
+      back = back.back;
+    }
