@@ -7,7 +7,7 @@
 enum { CELL_BYTES = 850, EVENT_BYTES = 208, CALLER_BYTES = 96, CPU_BYTES = 4, MCS_MORE_BYTES = 16 };
 
 // A cell of 2 CPUs with a ticket lock, without a log, takes this, or up to 32 bytes less: the examples of the page.
-enum { QUEUE_BYTES = 9968, POOL_BYTES = 33984, CONSOLE_BYTES = 4784 };
+enum { QUEUE_BYTES = 9952, POOL_BYTES = 33968, CONSOLE_BYTES = 4768 };
 
 // Notes by mc2_note.h: a call; a CPU without its notes, with the 16 bytes of the heap; an object.
 enum { NOTE_BYTES = 32, NOTING_CPU_BYTES = 304, SEQUENCE_BYTES = 12 };
