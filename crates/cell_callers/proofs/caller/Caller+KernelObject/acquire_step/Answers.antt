@@ -1,5 +1,4 @@
 use Rattle.std.proofs.Common.{sym}
-use Rattle.cell_callers.proofs.Places.{at_place}
 use Rattle.cell_callers.proofs.caller.Caller+KernelObject.acquire_step.Goals as goal
 
 pub returns-clause-step : goal.returns-clause-step
