@@ -14,6 +14,6 @@ kept_all (Err why) old new n m reported kept = (kept ∙ ap kept_code reported.0
 
 -- the batch that was done under a hold is the batch of the caller that came to that hold
 pub batch_done : (cell : KernelCell) (p : KernelState) (calls : List KCall) (hold : KernelHold) (looked : Bool) (old new : Replies × ℕ) (n : ℕ) (q : KernelState)
-    → (m : ℕ) × GoesThere ghosts state_of_caller (kind_of cell) (state_of_caller p) m (got_by looked) (state_of_hold hold) → ReportsHeldBatch cell hold calls old.0 n new.0 q → new.1 ≡ looks_after looked old.1 → ReportsBatchedAt cell p calls old n q new
+    → (m : ℕ) × GoesThere ghosts (λ (z : KernelState). state_of_caller z) (kind_of cell) (state_of_caller p) m (got_by looked) (state_of_hold hold) → ReportsHeldBatch cell hold calls old.0 n new.0 q → new.1 ≡ looks_after looked old.1 → ReportsBatchedAt cell p calls old n q new
 batch_done cell p calls hold looked old new n q there (said, true, reported, held) looks = (whole.Done said looked, reported, looks, record { steps = there.0; got = hold; there = there.1; held = held })
 batch_done cell p calls hold looked old new n q there (said, false, reported, held) looks = (whole.Kept said looked, reported, looks, record { steps = there.0; got = hold; there = there.1; held = held })

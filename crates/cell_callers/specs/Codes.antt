@@ -2,8 +2,8 @@
 use Rattle.std.specs.Prelude.{ℕ, ◌+◌, ◌%◌, ◌^◌, ◌==◌, Bool, true, false, Option, Some, None, Result, Ok, Err, if◌then◌else◌}
 use Rattle.event_log.specs.declared.logged.NoRoom.{NoRoom}
 use Rattle.kernel_object.specs.declared.call.KReply.{KReply}
-use Rattle.word_rule.specs.declared.progress.Progress.{Progress}
 use Rattle.cell_callers.specs.{declared.call_numbers.Answered.Answered, declared.report_codes.TheConstants.{STEPPED, AGAIN, ACQUIRED, ACQUIRED_BY_LOOK, RELEASED, REFUSED, BUSY, DONE, LOG_FULL, DONE_HELD, LOG_FULL_HELD, NO_MEMORY, BAD_PARAM}, declared.opening.NotOpened.NotOpened, declared.opening.NotOpened.TheVariants.{NotEmpty, BadOpening, OutOfMemory}, declared.whole.Whole.Whole, declared.whole.TriedCall.TriedCall, Coding.reply_code}
+use Rattle.word_rule.specs.declared.progress.Progress.{Progress}
 use Rattle.word_rule.specs.declared.progress.Progress.TheVariants as reported
 use Rattle.cell_callers.specs.declared.whole.Whole.TheVariants as whole
 use Rattle.cell_callers.specs.declared.whole.TriedCall.TheVariants as tried
