@@ -1,4 +1,3 @@
-pub mod Arrivals
 pub mod AsBox
 pub mod BatchCodes
 pub mod Batches
@@ -6,6 +5,5 @@ pub mod Homes
 pub mod Sends
 pub mod JoinedPasses
 pub mod Places
-pub mod Behind
 pub mod OneCalls
-pub mod Departures
+pub mod CallReports
