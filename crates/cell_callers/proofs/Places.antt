@@ -1,6 +1,6 @@
 -- The caller that stands in a place.
 use Rattle.std.specs.{declared.cmp.PartialEq.{Ghosts as Eq}, declared.default.Default.{Ghosts as Default}}
-use Rattle.std.proofs.Common.{◌≡◌, ◌∙◌, ap, subst, refl, sym, true, false, is_some, Option, Some, None, IsSome, IfSome}
+use Rattle.std.proofs.Common.{◌≡◌, ap, subst, refl, sym, false, Option, Some, None, IsSome, IfSome}
 use Rattle.event_log.specs.declared.object.SeqObject.{Ghosts}
 use Rattle.word_rule.specs.{declared.pass.Pass.Pass, Polls.is_idle}
 use Rattle.mcs_lock.specs.declared.rested.Rested.{Rested}

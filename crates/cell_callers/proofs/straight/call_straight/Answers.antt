@@ -1,0 +1,39 @@
+use Rattle.std.proofs.Common.{◌≡◌, ◌∙◌, ap, refl, subst, sym}
+use Rattle.std_alloc.specs.Arc.{arc_value}
+use Rattle.cell_callers.specs.Places.{IsPlaceOf, stands_at}
+use Rattle.cell_callers.proofs.{Places.{is_there, rested_there}, CallReports.{called_as, called_there, idle_one}}
+use Rattle.ticket_lock.specs.declared.caller.TicketCaller.TheVariants as at_ticket
+use Rattle.mcs_lock.specs.declared.caller.McsCaller.TheVariants as at_mcs
+use Rattle.guarded_cell.specs.declared.any_caller.AnyCaller.TheVariants as callers
+use Rattle.cell_callers.proofs.straight.call_straight.Goals as goal
+
+pub straight_ticket-requires-clause-one : goal.straight_ticket-requires-clause-one
+straight_ticket-requires-clause-one c =
+    let caller = c.args.caller.now in
+    (idle_one (arc_value caller.cell) caller.place c.in-Some.pass (sym c.replace.ensures.value ∙ c.in-Some.is) (is_there (arc_value caller.cell) _ _ refl caller.there caller.of caller.one)).1
+
+pub go_on-requires : goal.go_on-requires
+go_on-requires c =
+    let caller = c.args.caller.now in
+    let place = caller.place in
+    let stands = ap (λ z. stands_at (arc_value caller.cell) z place.rested place.line) (c.replace.ensures.after ∙ (sym c.in-None.is ∙ c.replace.ensures.value)) in
+    subst (λ z. IsPlaceOf z (record { pass = c.replace.new.dest; rested = place.rested; line = place.line })) (sym c.deref-any.ensures) (is_there (arc_value caller.cell) _ _ stands caller.there caller.of caller.one)
+
+pub from_pass-requires-clause-place : goal.from_pass-requires-clause-place
+from_pass-requires-clause-place c =
+    let caller = c.args.caller.now in
+    let place = caller.place in
+    let stands = ap (λ z. stands_at (arc_value caller.cell) place.pass z place.line) (c.replace-in-Mcs.ensures.after ∙ (sym c.in-None-replace.is ∙ c.replace-in-Mcs.ensures.value)) in
+    subst (λ z. IsPlaceOf z (record { pass = place.pass; rested = c.replace-in-Mcs.new.dest; line = place.line })) (sym c.deref-any.ensures) (is_there (arc_value caller.cell) _ _ stands caller.there caller.of caller.one)
+
+pub returns-in-Some-clause-reports : goal.returns-in-Some-clause-reports
+returns-in-Some-clause-reports c = ?
+
+pub returns-in-None-clause-reports : goal.returns-in-None-clause-reports
+returns-in-None-clause-reports c = ?
+
+pub returns-in-Some-replace-clause-reports : goal.returns-in-Some-replace-clause-reports
+returns-in-Some-replace-clause-reports c = ?
+
+pub returns-in-None-replace-clause-reports : goal.returns-in-None-replace-clause-reports
+returns-in-None-replace-clause-reports c = ?
