@@ -70,16 +70,12 @@ kept_reported (Err why) old new n m e k =
 -- a holder of an MCS lock has left
 module _ (any : KernelCell) (cell : McsCell KernelObject KParams KCall KReply) (is : any ≡ cells.Mcs cell) (h : KernelHold) (n m : ℕ) (after : KernelPlace) where
   pub left_place : HasLeft cell h n m after → IsOne (state_of_hold h).caller → IsPlaceOf any after
-  left_place (is_back, q, there, of, same, back, coded) one = subst (λ z. IsPlaceOf z after) (sym is) (q, there, of, subst IsOne (sym same) one)
-
-  reports_left : (p : KernelState) (got : KernelHold) (call : KCall) (said : Result KReply NoRoom) (old new : Answered) (looks : ℕ)
-      → HasEntered (state_of_caller p) true (state_of_hold got) → IsHeldApply ghosts got call said h → (n, new) ≡ answer_code DONE LOG_FULL old said → HasLeft cell h n m after → ReportsCalledAt (cells.Mcs cell) call p (old, looks) m after (new, looks)
-  reports_left p got call said old new looks (r, clear, enter) done code (true, q, there, of, same, back, coded) =
-      (whole.Done said false, q, (ap (λ z. (z, new)) coded ∙ code, refl), there, record { steps = suc zero; got = got; there = (callers.Mcs (at_mcs.Ready r), inl clear, enter); held = record { left = h; done = done; back = back } })
-  reports_left p got call said old new looks (r, clear, enter) done code (false, q, there, of, same, back, coded) =
-      (whole.Kept said false, q, (kept_reported said old new n m code coded, refl), there, record { steps = suc zero; got = got; there = (callers.Mcs (at_mcs.Ready r), inl clear, enter); held = record { left = h; done = done; back = back } })
+  left_place (is_back, q, there, of, same, back, coded) one = rw is (q, there, of, subst IsOne (sym same) one)
 
   -- the caller had entered as the first, and has done the call
   pub left_report : (p : KernelState) (got : KernelHold) (call : KCall) (said : Result KReply NoRoom) (old new : Answered) (looks : ℕ)
       → HasEntered (state_of_caller p) true (state_of_hold got) → IsHeldApply ghosts got call said h → (n, new) ≡ answer_code DONE LOG_FULL old said → HasLeft cell h n m after → ReportsCalledAt any call p (old, looks) m after (new, looks)
-  left_report p got call said old new looks entered done code left = subst (λ z. ReportsCalledAt z call p (old, looks) m after (new, looks)) (sym is) (reports_left p got call said old new looks entered done code left)
+  left_report p got call said old new looks (r, clear, enter) done code (true, q, there, of, same, back, coded) =
+      rw is (whole.Done said false, q, (ap (λ z. (z, new)) coded ∙ code, refl), there, record { steps = suc zero; got = got; there = (callers.Mcs (at_mcs.Ready r), inl clear, enter); held = record { left = h; done = done; back = back } })
+  left_report p got call said old new looks (r, clear, enter) done code (false, q, there, of, same, back, coded) =
+      rw is (whole.Kept said false, q, (kept_reported said old new n m code coded, refl), there, record { steps = suc zero; got = got; there = (callers.Mcs (at_mcs.Ready r), inl clear, enter); held = record { left = h; done = done; back = back } })

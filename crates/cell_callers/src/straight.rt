@@ -7,10 +7,10 @@ ghost use Rattle.guarded_cell.specs.AnyCallers.{state_of_caller};
 ghost use Rattle.guarded_cell.specs.declared.any_caller.AnyCaller.TheVariants as callers;
 ghost use Rattle.ticket_lock.specs.declared.caller.TicketCaller.TheVariants as at_ticket;
 ghost use Rattle.mcs_lock.specs.declared.caller.McsCaller.TheVariants as at_mcs;
-ghost use Rattle.cell_callers.specs.{declared.report_codes.TheConstants.AGAIN, Callers.{IfMcs, IsOne}, KernelCallers.{KernelCell, KernelState}, CallReports.{HasEntered, HasLeft, ReportsCalled, ReportsCalledAt}, Codes.{kept_code, looks_after}, Places.{IsAway, IsPlaceOf}};
+ghost use Rattle.cell_callers.specs.{declared.report_codes.TheConstants.AGAIN, Callers.{IfMcs, IsOne}, KernelCallers.KernelState, CallReports.{HasEntered, HasLeft, ReportsCalled, ReportsCalledAt}, Codes.{kept_code, looks_after}, Places.{IsAway, IsPlaceOf}};
 ghost use Rattle.ticket_lock.specs.Passes.{IsPassOf as IsTicketPassOf};
 ghost use Rattle.mcs_lock.specs.{Arrivals.{IsRestedOf, state_of_rested}, Passes.{IsPassOf as IsMcsPassOf, IsHoldOf as IsMcsHoldOf, IsBehindOf, IsPassingOf, state_of_behind, state_of_passing}};
-ghost use Rattle.word_rule.specs.{Mcs.Steps.IsPass, Passes.{state_of_pass, state_of_hold}};
+ghost use Rattle.word_rule.specs.{Mcs.Steps.IsPass, Passes.state_of_pass};
 ghost use Rattle.kernel_object.specs.contracts.object.KernelObjectSeqObject.TheImpl.{ghosts};
 ghost use Rattle.std_alloc.specs.Arc.{arc_value};
 

@@ -33,15 +33,16 @@ returns-in-Behind-clause-reports c =
 pub leave_mcs-requires-clause-hold : goal.leave_mcs-requires-clause-hold
 leave_mcs-requires-clause-hold c = c.shared_apply_held.ensures.of (Mcs c.args.cell.now) c.in-Hold.ensures.got.0
 
-pub returns-clause-place : goal.returns-clause-place
-returns-clause-place c =
-    let idle = idle_one c.args.any.now c.args.place.now c.in-Some.pass (sym c.replace.ensures.value ∙ c.in-Some.is) c.requires.place in
-    left_place c.args.any.now c.args.cell.now c.requires.cell c.shared_apply_held.new.hold c.answer_code-reported.result c.leave_mcs.result c.leave_mcs.new.place c.leave_mcs.ensures (subst IsOne (sym (c.shared_apply_held.ensures.caller ∙ (c.in-Hold.ensures.got.1.caller ∙ c.clear.ensures.step.caller))) idle.1)
-
-pub returns-clause-reports : goal.returns-clause-reports
-returns-clause-reports c =
+pub returns : goal.returns
+returns c =
     let any = c.args.any.now in
     let p = callers.Mcs (at_mcs.Idle c.in-Some.pass) in
+    let hold = c.shared_apply_held.new.hold in
     let code = c.answer_code-reported in
+    let left = c.leave_mcs in
     let idle = idle_one any c.args.place.now c.in-Some.pass (sym c.replace.ensures.value ∙ c.in-Some.is) c.requires.place in
-    called_there any any c.args.call c.args.place.now c.leave_mcs.new.place (c.args.answered.now, c.args.looks.now) (code.new.answered, c.args.looks.now) c.leave_mcs.result refl p (idle.0 ∙ ap (λ z. Some (idle_caller z c.in-Some.pass)) c.requires.cell) (left_report any c.args.cell.now c.requires.cell c.shared_apply_held.new.hold code.result c.leave_mcs.result c.leave_mcs.new.place p c.in-Hold.hold c.args.call c.shared_apply_held.result c.args.answered.now code.new.answered c.args.looks.now (c.clear.result, c.clear.ensures.step, c.in-Hold.ensures.got.1) c.shared_apply_held.ensures.applied code.ensures c.leave_mcs.ensures)
+    let reports = left_report any c.args.cell.now c.requires.cell hold code.result left.result left.new.place p c.in-Hold.hold c.args.call c.shared_apply_held.result c.args.answered.now code.new.answered c.args.looks.now (c.clear.result, c.clear.ensures.step, c.in-Hold.ensures.got.1) c.shared_apply_held.ensures.applied code.ensures left.ensures in
+    record {
+      place = left_place any c.args.cell.now c.requires.cell hold code.result left.result left.new.place left.ensures (subst IsOne (sym (c.shared_apply_held.ensures.caller ∙ (c.in-Hold.ensures.got.1.caller ∙ c.clear.ensures.step.caller))) idle.1);
+      reports = called_there any any c.args.call c.args.place.now left.new.place (c.args.answered.now, c.args.looks.now) (code.new.answered, c.args.looks.now) left.result refl p (idle.0 ∙ ap (λ z. Some (idle_caller z c.in-Some.pass)) c.requires.cell) reports;
+    }

@@ -12,13 +12,12 @@ returns-in-Behind-clause-reports c = let t = c.in-Behind.ensures.queued.1 in c.c
 pub leave_mcs-requires-clause-hold : goal.leave_mcs-requires-clause-hold
 leave_mcs-requires-clause-hold c = c.apply_held.ensures.of (Mcs c.args.cell.now) c.in-Hold.ensures.got.0
 
-pub returns-clause-place : goal.returns-clause-place
-returns-clause-place c =
-    let t = c.in-Hold.ensures.got.1 in
-    left_place c.args.any.now c.args.cell.now c.requires.cell c.apply_held.new.hold c.answer_code-reported.result c.leave_mcs.result c.leave_mcs.new.place c.leave_mcs.ensures (subst IsOne (sym (c.apply_held.ensures.caller ∙ (t.3.caller ∙ t.2.caller))) c.requires.one)
-
-pub returns-clause-reports : goal.returns-clause-reports
-returns-clause-reports c =
+pub returns : goal.returns
+returns c =
     let t = c.in-Hold.ensures.got.1 in
     let code = c.answer_code-reported in
-    left_report c.args.any.now c.args.cell.now c.requires.cell c.apply_held.new.hold code.result c.leave_mcs.result c.leave_mcs.new.place (callers.Mcs (at_mcs.Rested c.args.rested)) c.in-Hold.hold c.args.call c.apply_held.result c.args.answered.now code.new.answered c.args.looks.now (t.0, t.2, t.3) c.apply_held.ensures.applied code.ensures c.leave_mcs.ensures
+    let left = c.leave_mcs in
+    record {
+      place = left_place c.args.any.now c.args.cell.now c.requires.cell c.apply_held.new.hold code.result left.result left.new.place left.ensures (subst IsOne (sym (c.apply_held.ensures.caller ∙ (t.3.caller ∙ t.2.caller))) c.requires.one);
+      reports = left_report c.args.any.now c.args.cell.now c.requires.cell c.apply_held.new.hold code.result left.result left.new.place (callers.Mcs (at_mcs.Rested c.args.rested)) c.in-Hold.hold c.args.call c.apply_held.result c.args.answered.now code.new.answered c.args.looks.now (t.0, t.2, t.3) c.apply_held.ensures.applied code.ensures left.ensures;
+    }

@@ -10,36 +10,34 @@ use Rattle.cell_callers.proofs.straight.straight_ticket.Goals as goal
 pub serve-requires : goal.serve-requires
 serve-requires c = c.apply_held.ensures.of (Ticket c.args.cell.now) c.in-Ok.ensures.got.0
 
-pub returns-in-Ok-clause-place : goal.returns-in-Ok-clause-place
-returns-in-Ok-clause-place c =
+pub returns-in-Ok : goal.returns-in-Ok
+returns-in-Ok c =
     let drew = c.in-Ok.ensures.got.1 in
+    let idle = callers.Ticket (at_ticket.Idle c.serve.result) in
+    let stands = stands_idle (Ticket c.args.cell.now) _ _ _ c.serve.result refl c.requires.away.1 c.requires.away.2 in
     let same = c.serve.ensures.step.1.caller ∙ (c.apply_held.ensures.caller ∙ (drew.3.1.caller ∙ drew.2.1.caller)) in
-    (callers.Ticket (at_ticket.Idle c.serve.result), stands_idle (Ticket c.args.cell.now) _ _ _ c.serve.result refl c.requires.away.1 c.requires.away.2, c.serve.ensures.pass, subst IsOne (sym same) c.requires.one)
+    record {
+      place = (idle, stands, c.serve.ensures.pass, subst IsOne (sym same) c.requires.one);
+      reports = (
+        whole.Done c.apply_held.result true,
+        idle,
+        (c.answer_code-reported.ensures, c.count_look.ensures),
+        stands,
+        record {
+          steps = suc zero;
+          got = c.in-Ok.hold;
+          there = (callers.Ticket (at_ticket.Drawn drew.0), drew.2, drew.3);
+          held = record { left = c.apply_held.new.hold; done = c.apply_held.ensures.applied; back = (zero, c.serve.ensures.step) };
+        },
+      );
+    }
 
-pub returns-in-Ok-clause-reports : goal.returns-in-Ok-clause-reports
-returns-in-Ok-clause-reports c =
-    let drew = c.in-Ok.ensures.got.1 in (
-      whole.Done c.apply_held.result true,
-      callers.Ticket (at_ticket.Idle c.serve.result),
-      (c.answer_code-reported.ensures, c.count_look.ensures),
-      stands_idle (Ticket c.args.cell.now) _ _ _ c.serve.result refl c.requires.away.1 c.requires.away.2,
-      record {
-        steps = suc zero;
-        got = c.in-Ok.hold;
-        there = (callers.Ticket (at_ticket.Drawn drew.0), drew.2, drew.3);
-        held = record { left = c.apply_held.new.hold; done = c.apply_held.ensures.applied; back = (zero, c.serve.ensures.step) };
-      },
-    )
-
-pub returns-in-Err-clause-place : goal.returns-in-Err-clause-place
-returns-in-Err-clause-place c =
-    let drew = c.in-Err.ensures.missed.1 in
-    let drawn = callers.Ticket (at_ticket.Drawn c.in-Err.drawn) in
-    (drawn, stands_in_line (Ticket c.args.cell.now) _ _ _ drawn c.requires.away.0 c.requires.away.1 c.wait_drawn.ensures.line refl, c.in-Err.ensures.missed.0, subst IsOne (sym (drew.3.1.made.caller ∙ drew.2.1.caller)) c.requires.one)
-
-pub returns-in-Err-clause-reports : goal.returns-in-Err-clause-reports
-returns-in-Err-clause-reports c =
+pub returns-in-Err : goal.returns-in-Err
+returns-in-Err c =
     let drew = c.in-Err.ensures.missed.1 in
     let drawn = callers.Ticket (at_ticket.Drawn c.in-Err.drawn) in
     let stands = stands_in_line (Ticket c.args.cell.now) _ _ _ drawn c.requires.away.0 c.requires.away.1 c.wait_drawn.ensures.line refl in
-    (whole.Waits, drawn, (ap (λ n. (n, c.args.answered.now)) c.wait_drawn.ensures.reported, c.wait_drawn.ensures.looks), stands, (suc zero, (callers.Ticket (at_ticket.Drawn drew.0), drew.2, drew.3)))
+    record {
+      place = (drawn, stands, c.in-Err.ensures.missed.0, subst IsOne (sym (drew.3.1.made.caller ∙ drew.2.1.caller)) c.requires.one);
+      reports = (whole.Waits, drawn, (ap (λ n. (n, c.args.answered.now)) c.wait_drawn.ensures.reported, c.wait_drawn.ensures.looks), stands, (suc zero, (callers.Ticket (at_ticket.Drawn drew.0), drew.2, drew.3)));
+    }
