@@ -56,26 +56,18 @@ module _ (any cell : KernelCell) (call : KCall) (before after : KernelPlace) (ol
 
 -- the result where the lock isn't released yet
 kept_reported : (said : Result KReply NoRoom) (old new : Answered) (n m : ℕ) → (n, new) ≡ answer_code DONE LOG_FULL old said → m ≡ kept_code n → (m, new) ≡ answer_code DONE_HELD LOG_FULL_HELD old said
-kept_reported (Ok reply) old new n m e k =
-    let number : n ≡ DONE = ap (λ z. z.0) e in
-    let reported : m ≡ DONE_HELD = k ∙ ap kept_code number in
-    let reads : new ≡ reply_code reply = ap (λ z. z.1) e in
-    λ i. (reported i, reads i)
-kept_reported (Err why) old new n m e k =
-    let number : n ≡ LOG_FULL = ap (λ z. z.0) e in
-    let reported : m ≡ LOG_FULL_HELD = k ∙ ap kept_code number in
-    let stays : new ≡ old = ap (λ z. z.1) e in
-    λ i. (reported i, stays i)
+kept_reported (Ok reply) old new n m e k = ap (λ z. (z, new)) k ∙ ap (λ z. (kept_code z.0, z.1)) e
+kept_reported (Err why) old new n m e k = ap (λ z. (z, new)) k ∙ ap (λ z. (kept_code z.0, z.1)) e
 
--- a holder of an MCS lock has left
-module _ (any : KernelCell) (cell : McsCell KernelObject KParams KCall KReply) (is : any ≡ cells.Mcs cell) (h : KernelHold) (n m : ℕ) (after : KernelPlace) where
-  pub left_place : HasLeft cell h n m after → IsOne (state_of_hold h).caller → IsPlaceOf any after
-  left_place (is_back, q, there, of, same, back, coded) one = rw is (q, there, of, subst IsOne (sym same) one)
-
-  -- the caller had entered as the first, and has done the call
-  pub left_report : (p : KernelState) (got : KernelHold) (call : KCall) (said : Result KReply NoRoom) (old new : Answered) (looks : ℕ)
-      → HasEntered (state_of_caller p) true (state_of_hold got) → IsHeldApply ghosts got call said h → (n, new) ≡ answer_code DONE LOG_FULL old said → HasLeft cell h n m after → ReportsCalledAt any call p (old, looks) m after (new, looks)
-  left_report p got call said old new looks (r, clear, enter) done code (true, q, there, of, same, back, coded) =
-      rw is (whole.Done said false, q, (ap (λ z. (z, new)) coded ∙ code, refl), there, record { steps = suc zero; got = got; there = (callers.Mcs (at_mcs.Ready r), inl clear, enter); held = record { left = h; done = done; back = back } })
-  left_report p got call said old new looks (r, clear, enter) done code (false, q, there, of, same, back, coded) =
-      rw is (whole.Kept said false, q, (kept_reported said old new n m code coded, refl), there, record { steps = suc zero; got = got; there = (callers.Mcs (at_mcs.Ready r), inl clear, enter); held = record { left = h; done = done; back = back } })
+-- a caller of an MCS lock had entered as the first, has done the call, and has left
+module _ (any : KernelCell) (cell : McsCell KernelObject KParams KCall KReply) (is : any ≡ cells.Mcs cell) (p : KernelState) (got h : KernelHold) (call : KCall) (said : Result KReply NoRoom) (old new : Answered) (looks n m : ℕ) (after : KernelPlace) where
+  pub left : IsOne (state_of_caller p).caller → HasEntered (state_of_caller p) true (state_of_hold got) → (state_of_hold h).caller ≡ (state_of_hold got).caller → IsHeldApply ghosts got call said h → (n, new) ≡ answer_code DONE LOG_FULL old said → HasLeft cell h n m after
+      → IsPlaceOf any after × ReportsCalledAt any call p (old, looks) m after (new, looks)
+  left one (r, clear, enter) kept done code (true, q, there, of, same, back, coded) = rw is (
+    (q, there, of, subst IsOne (sym (same ∙ (kept ∙ (enter.caller ∙ clear.caller)))) one),
+    (whole.Done said false, q, (ap (λ z. (z, new)) coded ∙ code, refl), there, record { steps = suc zero; got = got; there = (callers.Mcs (at_mcs.Ready r), inl clear, enter); held = record { left = h; done = done; back = back } }),
+  )
+  left one (r, clear, enter) kept done code (false, q, there, of, same, back, coded) = rw is (
+    (q, there, of, subst IsOne (sym (same ∙ (kept ∙ (enter.caller ∙ clear.caller)))) one),
+    (whole.Kept said false, q, (kept_reported said old new n m code coded, refl), there, record { steps = suc zero; got = got; there = (callers.Mcs (at_mcs.Ready r), inl clear, enter); held = record { left = h; done = done; back = back } }),
+  )

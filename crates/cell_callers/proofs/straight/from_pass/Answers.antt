@@ -1,7 +1,7 @@
 use Rattle.std.proofs.Common.{◌≡◌, ◌∙◌, ap, refl, subst, sym, Some}
 use Rattle.guarded_cell.specs.{declared.cell.AnyCell.TheVariants.Mcs, AnyCallers.idle_caller}
 use Rattle.cell_callers.specs.{Callers.IsOne, Places.{IsPlaceOf, stands_at}}
-use Rattle.cell_callers.proofs.CallReports.{called_as, called_there, idle_one, left_place, left_report}
+use Rattle.cell_callers.proofs.CallReports.{called_as, called_there, idle_one, left}
 use Rattle.mcs_lock.specs.declared.caller.McsCaller.TheVariants as at_mcs
 use Rattle.guarded_cell.specs.declared.any_caller.AnyCaller.TheVariants as callers
 use Rattle.cell_callers.proofs.straight.from_pass.Goals as goal
@@ -37,12 +37,11 @@ pub returns : goal.returns
 returns c =
     let any = c.args.any.now in
     let p = callers.Mcs (at_mcs.Idle c.in-Some.pass) in
-    let hold = c.shared_apply_held.new.hold in
+    let apply = c.shared_apply_held in
     let code = c.answer_code-reported in
-    let left = c.leave_mcs in
     let idle = idle_one any c.args.place.now c.in-Some.pass (sym c.replace.ensures.value ∙ c.in-Some.is) c.requires.place in
-    let reports = left_report any c.args.cell.now c.requires.cell hold code.result left.result left.new.place p c.in-Hold.hold c.args.call c.shared_apply_held.result c.args.answered.now code.new.answered c.args.looks.now (c.clear.result, c.clear.ensures.step, c.in-Hold.ensures.got.1) c.shared_apply_held.ensures.applied code.ensures left.ensures in
+    let done = left any c.args.cell.now c.requires.cell p c.in-Hold.hold apply.new.hold c.args.call apply.result c.args.answered.now code.new.answered c.args.looks.now code.result c.leave_mcs.result c.leave_mcs.new.place idle.1 (c.clear.result, c.clear.ensures.step, c.in-Hold.ensures.got.1) apply.ensures.caller apply.ensures.applied code.ensures c.leave_mcs.ensures in
     record {
-      place = left_place any c.args.cell.now c.requires.cell hold code.result left.result left.new.place left.ensures (subst IsOne (sym (c.shared_apply_held.ensures.caller ∙ (c.in-Hold.ensures.got.1.caller ∙ c.clear.ensures.step.caller))) idle.1);
-      reports = called_there any any c.args.call c.args.place.now left.new.place (c.args.answered.now, c.args.looks.now) (code.new.answered, c.args.looks.now) left.result refl p (idle.0 ∙ ap (λ z. Some (idle_caller z c.in-Some.pass)) c.requires.cell) reports;
+      place = done.0;
+      reports = called_there any any c.args.call c.args.place.now c.leave_mcs.new.place (c.args.answered.now, c.args.looks.now) (code.new.answered, c.args.looks.now) c.leave_mcs.result refl p (idle.0 ∙ ap (λ z. Some (idle_caller z c.in-Some.pass)) c.requires.cell) done.1;
     }

@@ -1,7 +1,5 @@
-use Rattle.std.proofs.Common.{◌∙◌, subst, sym}
 use Rattle.guarded_cell.specs.declared.cell.AnyCell.TheVariants.{Mcs}
-use Rattle.cell_callers.specs.Callers.{IsOne}
-use Rattle.cell_callers.proofs.CallReports.{left_place, left_report}
+use Rattle.cell_callers.proofs.CallReports.{left}
 use Rattle.mcs_lock.specs.declared.caller.McsCaller.TheVariants as at_mcs
 use Rattle.guarded_cell.specs.declared.any_caller.AnyCaller.TheVariants as callers
 use Rattle.cell_callers.proofs.straight.straight_mcs.Goals as goal
@@ -15,9 +13,7 @@ leave_mcs-requires-clause-hold c = c.apply_held.ensures.of (Mcs c.args.cell.now)
 pub returns : goal.returns
 returns c =
     let t = c.in-Hold.ensures.got.1 in
+    let apply = c.apply_held in
     let code = c.answer_code-reported in
-    let left = c.leave_mcs in
-    record {
-      place = left_place c.args.any.now c.args.cell.now c.requires.cell c.apply_held.new.hold code.result left.result left.new.place left.ensures (subst IsOne (sym (c.apply_held.ensures.caller ∙ (t.3.caller ∙ t.2.caller))) c.requires.one);
-      reports = left_report c.args.any.now c.args.cell.now c.requires.cell c.apply_held.new.hold code.result left.result left.new.place (callers.Mcs (at_mcs.Rested c.args.rested)) c.in-Hold.hold c.args.call c.apply_held.result c.args.answered.now code.new.answered c.args.looks.now (t.0, t.2, t.3) c.apply_held.ensures.applied code.ensures left.ensures;
-    }
+    let done = left c.args.any.now c.args.cell.now c.requires.cell (callers.Mcs (at_mcs.Rested c.args.rested)) c.in-Hold.hold apply.new.hold c.args.call apply.result c.args.answered.now code.new.answered c.args.looks.now code.result c.leave_mcs.result c.leave_mcs.new.place c.requires.one (t.0, t.2, t.3) apply.ensures.caller apply.ensures.applied code.ensures c.leave_mcs.ensures in
+    record { place = done.0; reports = done.1 }
