@@ -8,7 +8,7 @@ use Rattle.mcs_lock.specs.{declared.cell.McsCell.McsCell, declared.caller.McsCal
 use Rattle.mcs_lock.proofs.McsPolls.{goes_after, goes_polled}
 use Rattle.guarded_cell.specs.{declared.cell.AnyCell.AnyCell, AnyCallers.{idle_caller, map_polled, state_of_caller}}
 use Rattle.guarded_cell.proofs.PollsOfLocks.{goes_of}
-use Rattle.cell_callers.specs.{declared.report_codes.TheConstants.{DONE, LOG_FULL, DONE_HELD, LOG_FULL_HELD}, declared.call_numbers.Answered.Answered, declared.place.CallerPlace.CallerPlace, Applies.IsHeldApply, Callers.IsOne, CallReports.{HasEntered, HasLeft, ReportsCalled, ReportsCalledAt}, Codes.{answer_code, kept_code}, Coding.reply_code, KernelCallers.{KernelCell, KernelHold, KernelPlace, KernelState}, Places.{IsPlaceOf, place_of}}
+use Rattle.cell_callers.specs.{declared.report_codes.TheConstants.{DONE, LOG_FULL, DONE_HELD, LOG_FULL_HELD}, declared.call_numbers.Answered.Answered, declared.place.CallerPlace.CallerPlace, Applies.IsHeldApply, Callers.IsOne, CallReports.{HasEntered, HasLeft, ReportsCalled, ReportsCalledAt}, Codes.{answer_code, kept_code}, KernelCallers.{KernelCell, KernelHold, KernelPlace, KernelState}, Places.{IsPlaceOf, place_of}}
 use Rattle.cell_callers.proofs.Places.{at_place, idle_there}
 use Rattle.mcs_lock.specs.Callers as mcs
 use Rattle.sound_run.specs.declared.lock_kind.LockKind.TheVariants as kinds

@@ -1,4 +1,4 @@
-use Rattle.std.proofs.Common.{◌≡◌, ◌∙◌, ap, refl, subst, sym, Some}
+use Rattle.std.proofs.Common.{◌∙◌, ap, refl, subst, sym, Some}
 use Rattle.guarded_cell.specs.{declared.cell.AnyCell.TheVariants.Mcs, AnyCallers.idle_caller}
 use Rattle.cell_callers.specs.{Callers.IsOne, Places.{IsPlaceOf, stands_at}}
 use Rattle.cell_callers.proofs.CallReports.{called_as, called_there, idle_one, left}
@@ -28,7 +28,7 @@ returns-in-Behind-clause-reports c =
     let any = c.args.any.now in
     let p = callers.Mcs (at_mcs.Idle c.in-Some.pass) in
     let idle = idle_one any c.args.place.now c.in-Some.pass (sym c.replace.ensures.value ∙ c.in-Some.is) c.requires.place in
-    called_there any any c.args.call c.args.place.now c.come_behind.new.place (c.args.answered.now, c.args.looks.now) (c.come_behind.new.answered, c.come_behind.new.looks) c.come_behind.result refl p (idle.0 ∙ ap (λ z. Some (idle_caller z c.in-Some.pass)) c.requires.cell) (c.come_behind.ensures.reports p (c.clear.result, c.clear.ensures.step, c.in-Behind.ensures.queued.1))
+    called_there _ _ c.args.call c.args.place.now c.come_behind.new.place (_, _) (_, _) _ refl p (idle.0 ∙ ap (λ z. Some (idle_caller z c.in-Some.pass)) c.requires.cell) (c.come_behind.ensures.reports p (c.clear.result, c.clear.ensures.step, c.in-Behind.ensures.queued.1))
 
 pub leave_mcs-requires-clause-hold : goal.leave_mcs-requires-clause-hold
 leave_mcs-requires-clause-hold c = c.shared_apply_held.ensures.of (Mcs c.args.cell.now) c.in-Hold.ensures.got.0
