@@ -1,4 +1,3 @@
-pub mod Arrivals
 pub mod BatchCodes
 pub mod Batches
 pub mod Homes
@@ -6,6 +5,5 @@ pub mod Idle
 pub mod Sends
 pub mod JoinedPasses
 pub mod Places
-pub mod Behind
 pub mod OneCalls
-pub mod Departures
+pub mod CallReports

@@ -1,16 +1,16 @@
 //! The path of most calls: an idle caller that meets nobody acquires the lock, does the call, and releases the lock. Rare cases are
 //! in functions of their own, which return the result themselves, so that this path needn't clear their locals.
 
-ghost use Rattle.std.specs.Prelude.{◌≡◌, true, None, Some};
+ghost use Rattle.std.specs.Prelude.{◌≡◌, true, false, None, Some};
 ghost use Rattle.guarded_cell.specs.declared.cell.AnyCell.TheVariants.{Ticket, Mcs};
-ghost use Rattle.guarded_cell.specs.Kinds.{IsHoldOf};
+ghost use Rattle.guarded_cell.specs.AnyCallers.{state_of_caller};
 ghost use Rattle.guarded_cell.specs.declared.any_caller.AnyCaller.TheVariants as callers;
 ghost use Rattle.ticket_lock.specs.declared.caller.TicketCaller.TheVariants as at_ticket;
 ghost use Rattle.mcs_lock.specs.declared.caller.McsCaller.TheVariants as at_mcs;
-ghost use Rattle.cell_callers.specs.{declared.report_codes.TheConstants.AGAIN, Callers.{IfMcs, IsOne}, KernelCallers.{KernelCell, KernelState}, CallReports.{GoesBehind, HasLeft, ReportsCalled, ReportsCalledAt}, Codes.{kept_code, looks_after}, Places.{IsAway, IsPlaceOf}};
+ghost use Rattle.cell_callers.specs.{declared.report_codes.TheConstants.AGAIN, Callers.{IfMcs, IsOne}, KernelCallers.KernelState, CallReports.{HasEntered, HasLeft, ReportsCalled, ReportsCalledAt}, Codes.{kept_code, looks_after}, Places.{IsAway, IsPlaceOf}};
 ghost use Rattle.ticket_lock.specs.Passes.{IsPassOf as IsTicketPassOf};
 ghost use Rattle.mcs_lock.specs.{Arrivals.{IsRestedOf, state_of_rested}, Passes.{IsPassOf as IsMcsPassOf, IsHoldOf as IsMcsHoldOf, IsBehindOf, IsPassingOf, state_of_behind, state_of_passing}};
-ghost use Rattle.word_rule.specs.{Mcs.Steps.IsPass, Passes.{state_of_pass, state_of_hold}};
+ghost use Rattle.word_rule.specs.{Mcs.Steps.IsPass, Passes.state_of_pass};
 ghost use Rattle.kernel_object.specs.contracts.object.KernelObjectSeqObject.TheImpl.{ghosts};
 ghost use Rattle.std_alloc.specs.Arc.{arc_value};
 
@@ -78,7 +78,7 @@ fn come_behind(
     requires one { IsOne (state_of_behind behind).caller }
     requires away { IsAway place.old }
     ensures place { IsPlaceOf any.now place.new }
-    ensures reports { (p : KernelState) → GoesBehind any.now p behind → ReportsCalledAt any.now call p (answered.old, looks.old) result place.new (answered.new, looks.new) }
+    ensures reports { (p : KernelState) → HasEntered (state_of_caller p) false (state_of_behind behind) → ReportsCalledAt any.now call p (answered.old, looks.old) result place.new (answered.new, looks.new) }
 {
     let AnyCell::Mcs(cell) = any else {
         unreachable!()
@@ -146,10 +146,8 @@ fn leave_mcs(
     reported: u32,
 ) -> u32
     requires hold { IsMcsHoldOf cell.now hold }
-    requires one { IsOne (state_of_hold hold).caller }
     requires away { IsAway place.old }
-    ensures place { IsPlaceOf (Mcs cell.now) place.new }
-    ensures left { HasLeft cell.now hold reported result place.new }
+    ensures { HasLeft cell.now hold reported result place.new }
 {
     match cell.see(hold) {
         Ok(passing) => place.pass = Some(pass_on(cell, passing)),
@@ -175,8 +173,8 @@ fn straight_mcs(
     requires rested { IsRestedOf cell.now rested }
     requires one { IsOne (state_of_rested rested).caller }
     requires away { IsAway place.old }
-    ensures place { IsPlaceOf (Mcs cell.now) place.new }
-    ensures reports { ReportsCalledAt (Mcs cell.now) call (callers.Mcs (at_mcs.Rested rested)) (answered.old, looks.old) result place.new (answered.new, looks.new) }
+    ensures place { IsPlaceOf any.now place.new }
+    ensures reports { ReportsCalledAt any.now call (callers.Mcs (at_mcs.Rested rested)) (answered.old, looks.old) result place.new (answered.new, looks.new) }
 {
     let mut hold = match cell.arrive(rested) {
         Entered::Hold(hold) => hold,
@@ -197,10 +195,10 @@ fn from_pass(
     looks: &mut u64,
 ) -> u32
     requires cell { any.now ≡ Mcs cell.now }
-    requires place { IsPlaceOf (Mcs cell.now) place.old }
+    requires place { IsPlaceOf any.now place.old }
     requires rested { place.old.rested ≡ None }
-    ensures place { IsPlaceOf (Mcs cell.now) place.new }
-    ensures reports { ReportsCalled (Mcs cell.now) call place.old (answered.old, looks.old) result place.new (answered.new, looks.new) }
+    ensures place { IsPlaceOf any.now place.new }
+    ensures reports { ReportsCalled any.now call place.old (answered.old, looks.old) result place.new (answered.new, looks.new) }
 {
     let Some(pass) = replace(&mut place.pass, None) else {
         return go_on(any, place, call, answered, looks);
