@@ -1,8 +1,8 @@
-use Rattle.std.proofs.{Common.{◌≡◌, ◌∙◌, ◌==◌, ◌&&◌, ◌≤◌, ℕ, Bool, nat_lt, true, false, ap, refl, sym, subst, arith, IsSome, IfSome, Some}, lemmas.Bool.Decides.nat_tests}
+use Rattle.std.proofs.{Common.{◌≡◌, ◌∙◌, ◌==◌, ◌&&◌, ◌≤◌, ℕ, Bool, nat_lt, false, refl, sym, subst, arith, IsSome, Some}, lemmas.Bool.Decides.nat_tests}
 use Rattle.std_alloc.specs.Arc.{arc_value}
-use Rattle.word_rule.specs.{Passes.view_of_pass, Polls.is_idle}
+use Rattle.word_rule.specs.{Polls.is_idle}
 use Rattle.guarded_cell.specs.{AnyCallers.state_of_caller, Kinds.IsPassOf}
-use Rattle.cell_callers.specs.{Callers.IsOne, Ends.is_next, Places.{Between, HasWoken, place_of}}
+use Rattle.cell_callers.specs.{Places.{place_of}}
 use Rattle.cell_callers.proofs.{Idle.{stands, shown_some, shown_none, wakes}, open_cell.OpenCell.return_caller.Goals.{then-self-via-then-self, then-self-via-else-self+then-cpu-from}}
 use Rattle.cell_callers.proofs.open_cell.OpenCell.return_caller.Goals as goal
 
