@@ -1,4 +1,4 @@
--- The content of a handle may go to another thread: an open cell, a caller in any state, and the log of a closed cell.
+-- The content of each handle may go to another thread: an open cell, a caller in any state, and the log of a closed cell.
 use denote.{RattleType.RattleType, Param.Send.{IsSend, IsSync, sendable, struct_send}, Struct.Declared.{shape as fields}}
 use Rattle.std.proofs.Crossing.{crosses}
 use Rattle.std.below.core.specs.contracts.clone.Clone+copy.TheImpl.{ghosts as copied}
@@ -8,8 +8,6 @@ use Rattle.kernel_object.specs.{contracts.object.KernelObjectSeqObject.TheImpl.{
 use Rattle.kernel_object.proofs.{object.KernelObject.TheSendSync.{the_send as object_send}, call.KParams.TheSendSync.{the_send as params_send}, call.KCall.TheSendSync.{the_send as call_send}, call.KReply.TheSendSync.{the_send as reply_send}}
 use Rattle.word_rule.proofs.Sends.{slot_send}
 use Rattle.guarded_cell.proofs.cell.AnyCell.TheSendSync.{the_send as any_send, the_sync as any_sync}
-use Rattle.cell_callers.specs.Handles.{row}
-use Rattle.core.proofs.mem.manually_drop.ManuallyDrop.TheSendSync as manual
 use Rattle.kernel_object.specs.contracts.object.KernelObject as Object
 use Rattle.kernel_object.specs.contracts.call.KParams as Params
 use Rattle.kernel_object.specs.contracts.call.KCall as Call
@@ -20,7 +18,8 @@ use Rattle.event_log.specs.contracts.logged.Logged as Logged
 use Rattle.word_rule.proofs.cpu.Cpu.TheSendSync as cpu
 use Rattle.word_rule.proofs.loan_token.LoanToken.TheSendSync as loan
 use Rattle.guarded_cell.specs.contracts.cell.AnyCell as AnyCell
-use Rattle.cell_callers.specs.contracts.handle_content.HandleContent as HandleContent
+use Rattle.cell_callers.specs.contracts.cell_content.CellContent as CellContent
+use Rattle.cell_callers.specs.contracts.caller_content.CallerContent as CallerContent
 
 -- a cell around an object of the kernel
 abbrev cell : RattleType
@@ -42,10 +41,9 @@ outside_send = struct_send (fields (Outside.the_type Object.the_row Params.the_r
 inside_send : IsSend (Inside.the_field Object.the_row Params.the_row Call.the_row Reply.the_row kernel call_compares call_defaults reply_compares reply_defaults).row
 inside_send = search (sendable, crosses, outside_send, log_send, loan.the_field_send)
 
--- the content of a handle
-content_send : IsSend HandleContent.the_row
-content_send = search (sendable, crosses, cell_send, cell_sync, outside_send, inside_send, log_send) depth 90 fits 20000
+-- the content of a cell's handle, and of a caller's
+pub cell_content_send : IsSend CellContent.the_row
+cell_content_send = search (sendable, crosses, cell_send, cell_sync, outside_send, inside_send, log_send) depth 90 fits 20000
 
--- the same, kept from being dropped
-pub row_send : IsSend row
-row_send = manual.the_send HandleContent.the_row content_send
+pub caller_content_send : IsSend CallerContent.the_row
+caller_content_send = search (sendable, crosses, cell_send, cell_sync, outside_send, inside_send, log_send) depth 90 fits 20000
