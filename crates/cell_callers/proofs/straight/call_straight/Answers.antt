@@ -32,19 +32,17 @@ returns-in-Some-clause-reports c =
     let caller = c.args.caller.now in
     let cell = arc_value caller.cell in
     let pass = c.in-Some.pass in
-    let done = c.straight_ticket in
     let same : Ticket c.in-Ticket.cell ≡ cell = sym c.in-Ticket.is ∙ c.deref-any.ensures in
     let idle = idle_one cell caller.place pass (sym c.replace.ensures.value ∙ c.in-Some.is) (is_there cell _ _ refl caller.there caller.of caller.one) in
-    called_there _ _ _ caller.place done.new.place (_, _) (_, _) _ same (callers.Ticket (at_ticket.Idle pass)) (idle.0 ∙ ap (λ z. Some (idle_caller z pass)) (sym same)) done.ensures.reports
+    called_there caller.place _ same (idle.0 ∙ ap (λ z. Some (idle_caller z pass)) (sym same)) c.straight_ticket.ensures.reports
 
 pub returns-in-None-clause-reports : goal.returns-in-None-clause-reports
 returns-in-None-clause-reports c =
     let caller = c.args.caller.now in
     let cell = arc_value caller.cell in
     let place = caller.place in
-    let done = c.go_on in
     let stands = ap (λ z. stands_at cell z place.rested place.line) (c.replace.ensures.after ∙ (sym c.in-None.is ∙ c.replace.ensures.value)) in
-    called_as _ _ _ place done.new.place (_, _) (_, _) _ c.deref-any.ensures (record { pass = c.replace.new.dest; rested = place.rested; line = place.line }) stands done.ensures.reports
+    called_as place _ c.deref-any.ensures (record { pass = c.replace.new.dest; rested = place.rested; line = place.line }) stands c.go_on.ensures.reports
 
 pub returns-in-Some-replace-clause-reports : goal.returns-in-Some-replace-clause-reports
 returns-in-Some-replace-clause-reports c =
@@ -52,15 +50,13 @@ returns-in-Some-replace-clause-reports c =
     let cell = arc_value caller.cell in
     let place = caller.place in
     let rested = c.in-Some-replace.rested in
-    let done = c.straight_mcs in
     let there = (rested_there cell place.pass place.rested place.line rested (sym c.replace-in-Mcs.ensures.value ∙ c.in-Some-replace.is) caller.there).2 in
-    called_there _ _ _ place done.new.place (_, _) (_, _) _ c.deref-any.ensures (callers.Mcs (at_mcs.Rested rested)) there done.ensures.reports
+    called_there place _ c.deref-any.ensures there c.straight_mcs.ensures.reports
 
 pub returns-in-None-replace-clause-reports : goal.returns-in-None-replace-clause-reports
 returns-in-None-replace-clause-reports c =
     let caller = c.args.caller.now in
     let cell = arc_value caller.cell in
     let place = caller.place in
-    let done = c.from_pass in
     let stands = ap (λ z. stands_at cell place.pass z place.line) (c.replace-in-Mcs.ensures.after ∙ (sym c.in-None-replace.is ∙ c.replace-in-Mcs.ensures.value)) in
-    called_as _ _ _ place done.new.place (_, _) (_, _) _ c.deref-any.ensures (record { pass = place.pass; rested = c.replace-in-Mcs.new.dest; line = place.line }) stands done.ensures.reports
+    called_as place _ c.deref-any.ensures (record { pass = place.pass; rested = c.replace-in-Mcs.new.dest; line = place.line }) stands c.from_pass.ensures.reports

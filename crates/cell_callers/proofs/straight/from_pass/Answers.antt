@@ -16,7 +16,7 @@ returns-in_default-clause-reports c =
     let place = c.args.place.now in
     let any = c.args.any.now in
     let stands = ap (λ z. stands_at any z place.rested place.line) (sym c.replace.ensures.value ∙ (c.in_default.is ∙ sym c.replace.ensures.after)) in
-    called_as _ _ _ place c.go_on.new.place (_, _) (_, _) _ refl (record { pass = c.replace.new.dest; rested = place.rested; line = place.line }) (sym stands) c.go_on.ensures.reports
+    called_as place _ refl (record { pass = c.replace.new.dest; rested = place.rested; line = place.line }) (sym stands) c.go_on.ensures.reports
 
 pub come_behind-requires-clause-one : goal.come_behind-requires-clause-one
 come_behind-requires-clause-one c =
@@ -28,7 +28,7 @@ returns-in-Behind-clause-reports c =
     let any = c.args.any.now in
     let p = callers.Mcs (at_mcs.Idle c.in-Some.pass) in
     let idle = idle_one any c.args.place.now c.in-Some.pass (sym c.replace.ensures.value ∙ c.in-Some.is) c.requires.place in
-    called_there _ _ _ c.args.place.now c.come_behind.new.place (_, _) (_, _) _ refl p (idle.0 ∙ ap (λ z. Some (idle_caller z c.in-Some.pass)) c.requires.cell) (c.come_behind.ensures.reports p (c.clear.result, c.clear.ensures.step, c.in-Behind.ensures.queued.1))
+    called_there c.args.place.now _ refl (idle.0 ∙ ap (λ z. Some (idle_caller z c.in-Some.pass)) c.requires.cell) (c.come_behind.ensures.reports p (c.clear.result, c.clear.ensures.step, c.in-Behind.ensures.queued.1))
 
 pub leave_mcs-requires-clause-hold : goal.leave_mcs-requires-clause-hold
 leave_mcs-requires-clause-hold c = c.shared_apply_held.ensures.of (Mcs c.args.cell.now) c.in-Hold.ensures.got.0
@@ -40,8 +40,8 @@ returns c =
     let apply = c.shared_apply_held in
     let code = c.answer_code-reported in
     let idle = idle_one any c.args.place.now c.in-Some.pass (sym c.replace.ensures.value ∙ c.in-Some.is) c.requires.place in
-    let done = left _ _ c.requires.cell p _ _ c.args.call _ _ _ c.args.looks.now _ _ c.leave_mcs.new.place idle.1 (c.clear.result, c.clear.ensures.step, c.in-Hold.ensures.got.1) apply.ensures.caller apply.ensures.applied code.ensures c.leave_mcs.ensures in
+    let done = left c.requires.cell p _ _ _ _ idle.1 (c.clear.result, c.clear.ensures.step, c.in-Hold.ensures.got.1) apply.ensures.caller apply.ensures.applied code.ensures c.leave_mcs.ensures in
     record {
       place = done.0;
-      reports = called_there _ _ _ c.args.place.now c.leave_mcs.new.place (_, _) (_, _) _ refl p (idle.0 ∙ ap (λ z. Some (idle_caller z c.in-Some.pass)) c.requires.cell) done.1;
+      reports = called_there c.args.place.now _ refl (idle.0 ∙ ap (λ z. Some (idle_caller z c.in-Some.pass)) c.requires.cell) done.1;
     }
