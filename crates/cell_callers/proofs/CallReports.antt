@@ -42,17 +42,12 @@ module _ {O P C R : Type 0} {g : Ghosts O P C R} {call_eq : Eq C} {call_default 
   lined_up p ready b r clear enter goes =
       goes_polled g state_of_hold state_of_caller p (map_polled callers.Mcs r) (goes_after g state_of_hold state_of_caller (state_of_caller p) (callers.Mcs (at_mcs.Ready ready)) (callers.Mcs (at_mcs.Behind b)) (map_polled callers.Mcs r) (inl clear) (inr (inl enter)) (goes_of g state_of_hold mcs.state_of_caller state_of_caller callers.Mcs (λ s. refl) kinds.Mcs (state_of_behind b) r goes))
 
--- the same cell, and a place where the same caller stands
-module _ (any cell : KernelCell) (call : KCall) (before after : KernelPlace) (old new : Answered × ℕ) (n : ℕ) (same : any ≡ cell) where
-  pub called_there : (p : KernelState) → place_of cell before ≡ Some p → ReportsCalledAt any call p old n after new → ReportsCalled cell call before old n after new
-  called_there p there at =
-      let done = subst (λ z. ReportsCalledAt z call p old n after new) same at in
-      (done.0, done.2, (p, done.1, there, done.3, done.4))
-
-  pub called_as : (before' : KernelPlace) → place_of cell before' ≡ place_of cell before → ReportsCalled any call before' old n after new → ReportsCalled cell call before old n after new
-  called_as before' stands at =
-      let done = subst (λ z. ReportsCalled z call before' old n after new) same at in
-      (done.0, done.1, (done.2.0, done.2.1, sym stands ∙ done.2.2, done.2.3, done.2.4))
+-- the caller was in that place, of the same cell
+pub called_there : {any cell : KernelCell} (before after : KernelPlace) {p : KernelState} {call : KCall} {old new : Answered} {looks looked n : ℕ}
+    → any ≡ cell → place_of cell before ≡ Some p → ReportsCalledAt any call p (old, looks) n after (new, looked) → ReportsCalled cell call before (old, looks) n after (new, looked)
+called_there before after {p} {call} {old} {new} {looks} {looked} {n} same there at =
+    let done = subst (λ z. ReportsCalledAt z call p (old, looks) n after (new, looked)) same at in
+    (done.0, done.2, (p, done.1, there, done.3, done.4))
 
 -- the result where the lock isn't released yet
 kept_reported : (said : Result KReply NoRoom) (old new : Answered) (n m : ℕ) → (n, new) ≡ answer_code DONE LOG_FULL old said → m ≡ kept_code n → (m, new) ≡ answer_code DONE_HELD LOG_FULL_HELD old said
@@ -60,7 +55,7 @@ kept_reported (Ok reply) old new n m e k = ap (λ z. (z, new)) k ∙ ap (λ z. (
 kept_reported (Err why) old new n m e k = ap (λ z. (z, new)) k ∙ ap (λ z. (kept_code z.0, z.1)) e
 
 -- a caller of an MCS lock had entered as the first, has done the call, and has left
-module _ (any : KernelCell) (cell : McsCell KernelObject KParams KCall KReply) (is : any ≡ cells.Mcs cell) (p : KernelState) (got h : KernelHold) (call : KCall) (said : Result KReply NoRoom) (old new : Answered) (looks n m : ℕ) (after : KernelPlace) where
+module _ {any : KernelCell} {cell : McsCell KernelObject KParams KCall KReply} (is : any ≡ cells.Mcs cell) (p : KernelState) (got h : KernelHold) (said : Result KReply NoRoom) (after : KernelPlace) {call : KCall} {old new : Answered} {looks n m : ℕ} where
   pub left : IsOne (state_of_caller p).caller → HasEntered (state_of_caller p) true (state_of_hold got) → (state_of_hold h).caller ≡ (state_of_hold got).caller → IsHeldApply ghosts got call said h → (n, new) ≡ answer_code DONE LOG_FULL old said → HasLeft cell h n m after
       → IsPlaceOf any after × ReportsCalledAt any call p (old, looks) m after (new, looks)
   left one (r, clear, enter) kept done code (true, q, there, of, same, back, coded) = rw is (

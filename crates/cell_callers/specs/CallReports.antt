@@ -32,6 +32,7 @@ HasLeft cell h reported n after = (is_back : Bool) × (q : KernelState) × (plac
 abbrev pub ReportsCalledAt : KernelCell → KCall → KernelState → Answered × ℕ → ℕ → KernelPlace → Answered × ℕ → Type 0
 ReportsCalledAt cell call p old n after new = (reported : Whole (Result KReply NoRoom)) × (q : KernelState) × IsReportOf reported old n new × (place_of cell after ≡ Some q) × IsCalled ghosts cell p call reported q
 
+-- the same of the caller that was in a place
 abbrev pub ReportsCalled : KernelCell → KCall → KernelPlace → Answered × ℕ → ℕ → KernelPlace → Answered × ℕ → Type 0
 ReportsCalled cell call before old n after new = (reported : Whole (Result KReply NoRoom)) × IsReportOf reported old n new × Between cell before after (λ p q. IsCalled ghosts cell p call reported q)
 

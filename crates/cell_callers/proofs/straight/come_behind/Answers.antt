@@ -15,4 +15,4 @@ returns-clause-place c =
 pub returns-clause-reports : goal.returns-clause-reports
 returns-clause-reports c = λ p entered.
     let done = c.call_polled-caller in
-    (done.result.1, done.result.0, (c.call_code.ensures.code, c.call_code.ensures.looks), c.put.ensures, done.ensures.called p (rw c.in-Mcs.is (rw c.polled_mcs.ensures (lined_up p entered.0 c.args.behind c.line_up.result entered.1 entered.2 c.line_up.ensures.goes))))
+    (done.result.1, done.result.0, (c.call_code.ensures.code, c.call_code.ensures.looks), c.put.ensures, done.ensures.called p (rw c.in-Mcs.is (rw c.polled_mcs.ensures (lined_up p entered.0 c.args.behind _ entered.1 entered.2 c.line_up.ensures.goes))))

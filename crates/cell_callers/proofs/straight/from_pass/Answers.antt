@@ -1,22 +1,16 @@
 use Rattle.std.proofs.Common.{◌∙◌, ap, refl, subst, sym, Some}
 use Rattle.guarded_cell.specs.{declared.cell.AnyCell.TheVariants.Mcs, AnyCallers.idle_caller}
-use Rattle.cell_callers.specs.{Callers.IsOne, Places.{IsPlaceOf, stands_at}}
-use Rattle.cell_callers.proofs.CallReports.{called_as, called_there, idle_one, left}
+use Rattle.cell_callers.specs.Callers.{IsOne}
+use Rattle.cell_callers.proofs.CallReports.{called_there, idle_one, left}
 use Rattle.mcs_lock.specs.declared.caller.McsCaller.TheVariants as at_mcs
 use Rattle.guarded_cell.specs.declared.any_caller.AnyCaller.TheVariants as callers
 use Rattle.cell_callers.proofs.straight.from_pass.Goals as goal
 
 pub go_on-requires : goal.go_on-requires
-go_on-requires c =
-    let place = c.args.place.now in
-    subst (λ z. IsPlaceOf c.args.any.now (record { pass = z; rested = place.rested; line = place.line })) (sym c.replace.ensures.value ∙ (c.in_default.is ∙ sym c.replace.ensures.after)) c.requires.place
+go_on-requires c = rw (c.replace.ensures.after ∙ (sym c.in_default.is ∙ c.replace.ensures.value)) c.requires.place
 
 pub returns-in_default-clause-reports : goal.returns-in_default-clause-reports
-returns-in_default-clause-reports c =
-    let place = c.args.place.now in
-    let any = c.args.any.now in
-    let stands = ap (λ z. stands_at any z place.rested place.line) (sym c.replace.ensures.value ∙ (c.in_default.is ∙ sym c.replace.ensures.after)) in
-    called_as any any c.args.call place c.go_on.new.place (c.args.answered.now, c.args.looks.now) (c.go_on.new.answered, c.go_on.new.looks) c.go_on.result refl (record { pass = c.replace.new.dest; rested = place.rested; line = place.line }) (sym stands) c.go_on.ensures.reports
+returns-in_default-clause-reports c = rw (c.replace.ensures.after ∙ (sym c.in_default.is ∙ c.replace.ensures.value)) at c.go_on.ensures.reports
 
 pub come_behind-requires-clause-one : goal.come_behind-requires-clause-one
 come_behind-requires-clause-one c =
@@ -25,23 +19,21 @@ come_behind-requires-clause-one c =
 
 pub returns-in-Behind-clause-reports : goal.returns-in-Behind-clause-reports
 returns-in-Behind-clause-reports c =
-    let any = c.args.any.now in
     let p = callers.Mcs (at_mcs.Idle c.in-Some.pass) in
-    let idle = idle_one any c.args.place.now c.in-Some.pass (sym c.replace.ensures.value ∙ c.in-Some.is) c.requires.place in
-    called_there _ _ c.args.call c.args.place.now c.come_behind.new.place (_, _) (_, _) _ refl p (idle.0 ∙ ap (λ z. Some (idle_caller z c.in-Some.pass)) c.requires.cell) (c.come_behind.ensures.reports p (c.clear.result, c.clear.ensures.step, c.in-Behind.ensures.queued.1))
+    let idle = idle_one c.args.any.now c.args.place.now c.in-Some.pass (sym c.replace.ensures.value ∙ c.in-Some.is) c.requires.place in
+    called_there _ _ refl (idle.0 ∙ ap (λ z. Some (idle_caller z c.in-Some.pass)) c.requires.cell) (c.come_behind.ensures.reports p (c.clear.result, c.clear.ensures.step, c.in-Behind.ensures.queued.1))
 
 pub leave_mcs-requires-clause-hold : goal.leave_mcs-requires-clause-hold
 leave_mcs-requires-clause-hold c = c.shared_apply_held.ensures.of (Mcs c.args.cell.now) c.in-Hold.ensures.got.0
 
 pub returns : goal.returns
 returns c =
-    let any = c.args.any.now in
     let p = callers.Mcs (at_mcs.Idle c.in-Some.pass) in
     let apply = c.shared_apply_held in
     let code = c.answer_code-reported in
-    let idle = idle_one any c.args.place.now c.in-Some.pass (sym c.replace.ensures.value ∙ c.in-Some.is) c.requires.place in
-    let done = left any c.args.cell.now c.requires.cell p c.in-Hold.hold apply.new.hold c.args.call apply.result c.args.answered.now code.new.answered c.args.looks.now code.result c.leave_mcs.result c.leave_mcs.new.place idle.1 (c.clear.result, c.clear.ensures.step, c.in-Hold.ensures.got.1) apply.ensures.caller apply.ensures.applied code.ensures c.leave_mcs.ensures in
+    let idle = idle_one c.args.any.now c.args.place.now c.in-Some.pass (sym c.replace.ensures.value ∙ c.in-Some.is) c.requires.place in
+    let done = left c.requires.cell p _ _ _ _ idle.1 (c.clear.result, c.clear.ensures.step, c.in-Hold.ensures.got.1) apply.ensures.caller apply.ensures.applied code.ensures c.leave_mcs.ensures in
     record {
       place = done.0;
-      reports = called_there any any c.args.call c.args.place.now c.leave_mcs.new.place (c.args.answered.now, c.args.looks.now) (code.new.answered, c.args.looks.now) c.leave_mcs.result refl p (idle.0 ∙ ap (λ z. Some (idle_caller z c.in-Some.pass)) c.requires.cell) done.1;
+      reports = called_there _ _ refl (idle.0 ∙ ap (λ z. Some (idle_caller z c.in-Some.pass)) c.requires.cell) done.1;
     }

@@ -15,11 +15,11 @@ pub returns-in-Ok-rest : goal.returns-in-Ok-rest
 returns-in-Ok-rest c =
     let none = c.in-Err.ensures.none.1 in
     let home = c.in-Ok-rest.ensures.home in
-    (true, callers.Mcs (at_mcs.Rested c.in-Ok-rest.rested), stands_rested (Mcs c.args.cell.now) _ _ _ c.in-Ok-rest.rested c.requires.away.0 c.put_in.ensures c.requires.away.2, home.0, home.1.caller ∙ none.caller, (suc zero, (callers.Mcs (at_mcs.Alone c.in-Err.alone), inl (inr none), inl home.1)), refl)
+    (true, callers.Mcs (at_mcs.Rested c.in-Ok-rest.rested), stands_rested (Mcs c.args.cell.now) _ _ _ _ c.requires.away.0 c.put_in.ensures c.requires.away.2, home.0, home.1.caller ∙ none.caller, (suc zero, (callers.Mcs (at_mcs.Alone c.in-Err.alone), inl (inr none), inl home.1)), refl)
 
 pub returns-in-Err-rest : goal.returns-in-Err-rest
 returns-in-Err-rest c =
     let none = c.in-Err.ensures.none.1 in
     let missed = c.in-Err-rest.ensures.missed in
     let leaving = callers.Mcs (at_mcs.Leaving c.in-Err-rest.leaving) in
-    (false, leaving, stands_in_line (Mcs c.args.cell.now) _ _ _ leaving c.requires.away.0 c.requires.away.1 c.keep.ensures.line refl, missed.0, missed.1.made.caller ∙ none.caller, (suc zero, (callers.Mcs (at_mcs.Alone c.in-Err.alone), inl (inr none), inr (inl missed.1)), refl), c.keep.ensures.reported)
+    (false, leaving, stands_in_line (Mcs c.args.cell.now) _ _ _ _ c.requires.away.0 c.requires.away.1 c.keep.ensures.line refl, missed.0, missed.1.made.caller ∙ none.caller, (suc zero, (callers.Mcs (at_mcs.Alone c.in-Err.alone), inl (inr none), inr (inl missed.1)), refl), c.keep.ensures.reported)

@@ -15,5 +15,5 @@ returns c =
     let t = c.in-Hold.ensures.got.1 in
     let apply = c.apply_held in
     let code = c.answer_code-reported in
-    let done = left _ _ c.requires.cell (callers.Mcs (at_mcs.Rested c.args.rested)) _ _ c.args.call _ _ _ c.args.looks.now _ _ c.leave_mcs.new.place c.requires.one (t.0, t.2, t.3) apply.ensures.caller apply.ensures.applied code.ensures c.leave_mcs.ensures in
+    let done = left c.requires.cell (callers.Mcs (at_mcs.Rested c.args.rested)) _ _ _ _ c.requires.one (t.0, t.2, t.3) apply.ensures.caller apply.ensures.applied code.ensures c.leave_mcs.ensures in
     record { place = done.0; reports = done.1 }

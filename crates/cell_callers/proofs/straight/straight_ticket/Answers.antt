@@ -36,7 +36,7 @@ pub returns-in-Err : goal.returns-in-Err
 returns-in-Err c =
     let drew = c.in-Err.ensures.missed.1 in
     let drawn = callers.Ticket (at_ticket.Drawn c.in-Err.drawn) in
-    let stands = stands_in_line (Ticket c.args.cell.now) _ _ _ drawn c.requires.away.0 c.requires.away.1 c.wait_drawn.ensures.line refl in
+    let stands = stands_in_line (Ticket c.args.cell.now) _ _ _ _ c.requires.away.0 c.requires.away.1 c.wait_drawn.ensures.line refl in
     record {
       place = (drawn, stands, c.in-Err.ensures.missed.0, subst IsOne (sym (drew.3.1.made.caller ∙ drew.2.1.caller)) c.requires.one);
       reports = (whole.Waits, drawn, (ap (λ n. (n, c.args.answered.now)) c.wait_drawn.ensures.reported, c.wait_drawn.ensures.looks), stands, (suc zero, (callers.Ticket (at_ticket.Drawn drew.0), drew.2, drew.3)));
