@@ -3,6 +3,7 @@ use Rattle.std.specs.Prelude.{◌≡◌, ℕ, ◌==◌, ◌||◌, nat_lt, List, 
 use Rattle.core.specs.Mem.{manually_drop_value}
 use Rattle.event_log.specs.{declared.logged.NoRoom.NoRoom, declared.event.TheConstants.MOST_CALLS}
 use Rattle.kernel_object.specs.{declared.call.KCall.KCall, declared.call.KReply.KReply}
+use Rattle.word_rule.specs.declared.progress.Progress.{Progress}
 use Rattle.cell_callers.specs.{declared.caller_content.CallerContent.CallerContent, declared.cell_content.CellContent.CellContent, declared.call_numbers.Asked.Asked, declared.call_numbers.Answered.Answered, declared.report_codes.TheConstants.{REFUSED, NOT_FOUND}, declared.batching.Batch.Batch, declared.batching.Replies.Replies, BatchCodes.{batch_calls, ReportsWhole}, declared.whole.Whole.Whole, declared.whole.TriedCall.TriedCall, declared.caller_handle.CallerHandle.CallerHandle, declared.cell_handle.CellHandle.CellHandle, CallerContents.{IsAcquireStepIn, IsReleaseStepIn, IsTryIn, IsApplyIn, IsBatchIn, IsTryCallIn}, KernelCallers.KernelSteps, Coding.called_of, CallReports.ReportsCallOf, Codes.{progress_code, try_code, apply_code, try_call_code, looks_after, has_looked}}
 
 -- the content of a handle

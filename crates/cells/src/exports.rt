@@ -1,5 +1,8 @@
 //! The exports that take a caller: single steps of the lock, tries and whole calls.
 
+ghost use Rattle.std.specs.Prelude.{◌<◌, ◌≤◌, length};
+ghost use Rattle.event_log.specs.declared.event.TheConstants.{MOST_CALLS};
+ghost use Rattle.cell_callers.specs.{BatchReports.ReportsBatchIn, CallReports.ReportsCallOf, CallerContents.{IsAcquireStepIn, IsReleaseStepIn, IsTryIn, IsApplyIn, IsTryCallIn}};
 ghost use Rattle.cells.specs.Exports.{caller_of, ReportsAcquireStep, ReportsReleaseStep, ReportsTry, ReportsApply, ReportsCall, ReportsBatch, ReportsTryCall};
 
 use arrayvec::ArrayVec;
@@ -19,10 +22,18 @@ use kernel_object::KCall;
 pub extern "C" fn mc2_acquire_step(caller: &mut CallerHandle) -> u32
     ensures { ReportsAcquireStep (caller_of caller.old) result (caller_of caller.new) }
 {
-    progress_code(at_content(caller, (), |content, ()| match content {
-        CallerContent::Caller(caller) => caller.acquire_step(),
-        CallerContent::Empty => None,
-    }))
+    progress_code(at_content(
+        caller,
+        (),
+        |content, ()|
+            ensures { IsAcquireStepIn content.old result content.new }
+        {
+            match content {
+                CallerContent::Caller(caller) => caller.acquire_step(),
+                CallerContent::Empty => None,
+            }
+        },
+    ))
 }
 
 /// Performs the caller's next step to release the lock.
@@ -32,10 +43,18 @@ pub extern "C" fn mc2_acquire_step(caller: &mut CallerHandle) -> u32
 pub extern "C" fn mc2_release_step(caller: &mut CallerHandle) -> u32
     ensures { ReportsReleaseStep (caller_of caller.old) result (caller_of caller.new) }
 {
-    progress_code(at_content(caller, (), |content, ()| match content {
-        CallerContent::Caller(caller) => caller.release_step(),
-        CallerContent::Empty => None,
-    }))
+    progress_code(at_content(
+        caller,
+        (),
+        |content, ()|
+            ensures { IsReleaseStepIn content.old result content.new }
+        {
+            match content {
+                CallerContent::Caller(caller) => caller.release_step(),
+                CallerContent::Empty => None,
+            }
+        },
+    ))
 }
 
 /// Acquires the lock if no one holds it or is in line, by one look at most.
@@ -44,10 +63,18 @@ pub extern "C" fn mc2_release_step(caller: &mut CallerHandle) -> u32
 pub extern "C" fn mc2_poll_try_acquire(caller: &mut CallerHandle) -> u32
     ensures { ReportsTry (caller_of caller.old) result (caller_of caller.new) }
 {
-    try_code(at_content(caller, (), |content, ()| match content {
-        CallerContent::Caller(caller) => caller.try_hold(),
-        CallerContent::Empty => None,
-    }))
+    try_code(at_content(
+        caller,
+        (),
+        |content, ()|
+            ensures { IsTryIn content.old result content.new }
+        {
+            match content {
+                CallerContent::Caller(caller) => caller.try_hold(),
+                CallerContent::Empty => None,
+            }
+        },
+    ))
 }
 
 /// Performs one call as one event of the log. The caller must hold the lock.
@@ -63,10 +90,18 @@ pub extern "C" fn mc2_handle_apply(
     let Some(call) = shared_called_of(asked) else {
         return NOT_FOUND;
     };
-    match at_content(caller, &call, |content, call| match content {
-        CallerContent::Caller(caller) => caller.apply(call),
-        CallerContent::Empty => None,
-    }) {
+    match at_content(
+        caller,
+        &call,
+        |content, call|
+            ensures { IsApplyIn call.now content.old result content.new }
+        {
+            match content {
+                CallerContent::Caller(caller) => caller.apply(call),
+                CallerContent::Empty => None,
+            }
+        },
+    ) {
         Some(done) => shared_answer_code(done, DONE, LOG_FULL, answered),
         None => REFUSED,
     }
@@ -87,9 +122,13 @@ pub fn call_of(
         call,
         answered,
         looks,
-        |content, call, answered, looks| match content {
-            CallerContent::Caller(caller) => call_straight(caller, call, answered, looks),
-            CallerContent::Empty => REFUSED,
+        |content, call, answered, looks|
+            ensures { ReportsCallOf call content.old (answered.old, looks.old) result content.new (answered.new, looks.new) }
+        {
+            match content {
+                CallerContent::Caller(caller) => call_straight(caller, call, answered, looks),
+                CallerContent::Empty => REFUSED,
+            }
         },
     )
 }
@@ -138,9 +177,15 @@ pub extern "C" fn mc2_poll_batch(
         calls.as_slice(),
         replies,
         looks,
-        |content, calls, replies, looks| match content {
-            CallerContent::Caller(caller) => batch_in_place(caller, calls, replies, looks),
-            CallerContent::Empty => REFUSED,
+        |content, calls, replies, looks|
+            requires some { 0 < length calls.now }
+            requires few { length calls.now ≤ MOST_CALLS }
+            ensures { ReportsBatchIn calls.now content.old (replies.old, looks.old) result content.new (replies.new, looks.new) }
+        {
+            match content {
+                CallerContent::Caller(caller) => batch_in_place(caller, calls, replies, looks),
+                CallerContent::Empty => REFUSED,
+            }
         },
     )
 }
@@ -158,10 +203,18 @@ pub extern "C" fn mc2_poll_try_call(
     let Some(call) = shared_called_of(asked) else {
         return NOT_FOUND;
     };
-    match at_content(caller, &call, |content, call| match content {
-        CallerContent::Caller(caller) => caller.try_call(call),
-        CallerContent::Empty => TriedCall::Refused,
-    }) {
+    match at_content(
+        caller,
+        &call,
+        |content, call|
+            ensures { IsTryCallIn call.now content.old result content.new }
+        {
+            match content {
+                CallerContent::Caller(caller) => caller.try_call(call),
+                CallerContent::Empty => TriedCall::Refused,
+            }
+        },
+    ) {
         TriedCall::Done(done) => shared_answer_code(done, DONE, LOG_FULL, answered),
         TriedCall::Kept(done) => shared_answer_code(done, DONE_HELD, LOG_FULL_HELD, answered),
         TriedCall::Busy => BUSY,
