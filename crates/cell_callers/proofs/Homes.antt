@@ -7,19 +7,11 @@ use Rattle.event_log.specs.{declared.object.SeqObject.Ghosts, History.History}
 use Rattle.event_log.proofs.Lists.{some_at, get_front, get_last}
 use Rattle.sound_run.specs.declared.lock_kind.LockKind.{LockKind}
 use Rattle.word_rule.specs.{declared.pass.Pass.Pass, Cell.{EachAt, OwnsAll, first_pass}, Passes.view_of_pass}
-use Rattle.guarded_cell.specs.{declared.cell.AnyCell.AnyCell, Kinds.IsPassOf}
-use Rattle.cell_callers.specs.{Callers.fixed_of, OpenCells.{IsHome, AreHome, OwnsFirst, IsBack}}
-use Rattle.guarded_cell.specs.declared.cell.AnyCell.TheVariants as cells
-
-pub same_number : (a b : ℕ) → a ≡ b → (a == b) ≡ true
-same_number = eq-eqb
+use Rattle.guarded_cell.specs.{declared.cell.AnyCell.AnyCell, Kinds.{IsPassOf, fixed_of}}
+use Rattle.guarded_cell.proofs.JoinedPasses.{reported_of}
+use Rattle.cell_callers.specs.{OpenCells.{IsHome, AreHome, OwnsFirst, IsBack}}
 
 module _ {O P C R : Type 0} {g : Ghosts O P C R} {call_eq : Eq C} {call_default : Default C} {reply_eq : Eq R} {reply_default : Default R} where
-  -- a pass has received the key that its cell has received
-  pub reported_of : (cell : AnyCell O P C R) (p : Pass O P C R g call_eq call_default reply_eq reply_default) → IsPassOf cell p → p.outside.key.value ≡ fixed_of cell
-  reported_of (cells.Ticket c) p is = is.reported
-  reported_of (cells.Mcs c) p is = is.reported
-
   -- all passes but the last, and the last
   pub front_home : (cell : AnyCell O P C R) (ps : List (Pass O P C R g call_eq call_default reply_eq reply_default)) (p : Pass O P C R g call_eq call_default reply_eq reply_default) → AreHome cell (ps ++ p ∷ []) → AreHome cell ps
   front_home cell ps p homes k x there = homes k x (get_front ps (p ∷ []) k x there)
@@ -38,7 +30,7 @@ module _ {O P C R : Type 0} {g : Ghosts O P C R} {call_eq : Eq C} {call_default 
   pub first_back : (cell : AnyCell O P C R) (n : ℕ) (p : Pass O P C R g call_eq call_default reply_eq reply_default) → IsHome cell n p → n ≡ 0 → OwnsFirst cell (n + 1) p
   first_back cell n p home none = record {
     of = home.of;
-    owned = λ k below. let number = home.number in home.one.each k ∙ same_number k (view_of_pass p).caller.acting (omega (arith, below, number, none));
+    owned = λ k below. let number = home.number in home.one.each k ∙ eq-eqb k (view_of_pass p).caller.acting (omega (arith, below, number, none));
   }
 
   -- the next CPU's pass is returned, and joined with those before it
@@ -48,7 +40,7 @@ module _ {O P C R : Type 0} {g : Ghosts O P C R} {call_eq : Eq C} {call_default 
     where
       each : (k : ℕ) → k < n + 1 → (view_of_pass j).caller.owned k ≡ true
       each k below = dite (ℕ_discrete k n)
-          (λ e. let number = home.number in owned k ∙ or_right ((view_of_pass a).caller.owned k) ((view_of_pass p).caller.owned k) (home.one.each k ∙ same_number k (view_of_pass p).caller.acting (omega (arith, e, number))))
+          (λ e. let number = home.number in owned k ∙ or_right ((view_of_pass a).caller.owned k) ((view_of_pass p).caller.owned k) (home.one.each k ∙ eq-eqb k (view_of_pass p).caller.acting (omega (arith, e, number))))
           (λ ne. owned k ∙ or_left ((view_of_pass a).caller.owned k) ((view_of_pass p).caller.owned k) (first.owned k (omega (arith, below, ne))))
 
   -- the owner of the first CPUs owns all CPUs if there are no others

@@ -3,7 +3,6 @@ pub mod Batches
 pub mod Homes
 pub mod Idle
 pub mod Sends
-pub mod JoinedPasses
 pub mod Places
 pub mod OneCalls
 pub mod CallReports

@@ -1,16 +1,11 @@
--- Callers of a cell, and what was fixed when it was opened.
+-- Callers of a cell.
 use Rattle.std.specs.Prelude.{◌≡◌, ℕ, ◌==◌}
-use Rattle.word_rule.specs.Cell.{Cell, Caller}
+use Rattle.word_rule.specs.Cell.{Caller}
 use Rattle.mcs_lock.specs.declared.cell.McsCell.{McsCell}
 use Rattle.guarded_cell.specs.declared.cell.AnyCell.{AnyCell}
 use Rattle.guarded_cell.specs.declared.cell.AnyCell.TheVariants as cells
 
 module _ {O P C R : Type 0} where
-  -- what was fixed when the cell was opened
-  abbrev pub fixed_of : AnyCell O P C R → Cell O P C R
-  fixed_of (cells.Ticket c) = c.table.table.shared.key
-  fixed_of (cells.Mcs c) = c.table.table.shared.key
-
   -- the cell has an MCS lock, and Q holds of it
   abbrev pub IfMcs : AnyCell O P C R → (McsCell O P C R → Type 0) → Type 0
   IfMcs (cells.Ticket c) Q = ⊥

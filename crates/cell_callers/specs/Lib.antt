@@ -5,7 +5,6 @@ pub mod OneCalls
 pub mod Facts
 pub mod Places
 pub mod OpenCells
-pub mod Unused
 pub mod Ends
 pub mod KernelCallers
 pub mod CallerContents

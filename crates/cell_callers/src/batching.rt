@@ -4,7 +4,7 @@ ghost use Rattle.std.specs.Prelude.{◌≡◌, ◌≤◌, true, false, Some, Non
 ghost use Rattle.event_log.specs.declared.event.TheConstants.{MOST_CALLS};
 ghost use Rattle.cell_callers.specs.BatchCodes.{batch_calls, AreRepliesTo};
 
-use crate::call_numbers::{Answered, Asked, reply_code, shared_called_of};
+use crate::call_numbers::{Answered, Asked, called_of, reply_code};
 use arrayvec::ArrayVec;
 use event_log::{MOST_CALLS, Step};
 use kernel_object::{KCall, KernelObject};
@@ -35,7 +35,7 @@ pub fn write_calls(batch: &Batch, calls: &mut ArrayVec<KCall, MOST_CALLS>) -> bo
 {
     *calls = ArrayVec::new();
     for asked in &batch.calls[..batch.count as usize] {
-        let Some(call) = shared_called_of(asked) else {
+        let Some(call) = called_of(asked) else {
             return false;
         };
         calls.push(call);

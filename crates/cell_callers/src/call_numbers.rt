@@ -27,7 +27,7 @@ pub struct Answered {
 }
 
 /// The call of these numbers.
-#[inline]
+#[inline(never)]
 pub fn called_of(asked: &Asked) -> Option<KCall>
     ensures { result ≡ called_of asked.now }
 {
@@ -66,14 +66,6 @@ pub fn called_of(asked: &Asked) -> Option<KCall>
         _ => return None,
     };
     Some(call)
-}
-
-/// The same, once in the library for the calls that needn't be the fastest.
-#[inline(never)]
-pub fn shared_called_of(asked: &Asked) -> Option<KCall>
-    ensures { result ≡ called_of asked.now }
-{
-    called_of(asked)
 }
 
 /// The numbers of the reply.

@@ -5,10 +5,9 @@ ghost use Rattle.std_alloc.specs.Arc.{arc_value};
 ghost use Rattle.sound_run.specs.declared.limits.TheConstants.{MOST_CPUS};
 ghost use Rattle.cell_callers.specs.{OpenCells.{IsHome, TakesIn}, NewCells.IsOpenedOn, Ends.{IsNewCaller, IsReturned, IsClosed}};
 
-use crate::unused_cell::end_unused;
 use crate::{Caller, CallerPlace, OpenCell};
 use event_log::{Logged, SeqObject};
-use guarded_cell::AnyCell;
+use guarded_cell::{AnyCell, end_unused};
 use sound_run::{LockKind, MOST_CPUS};
 use std::alloc::Global;
 use std::sync::Arc;

@@ -21,7 +21,6 @@ mod place;
 mod reopening;
 mod report_codes;
 mod straight;
-mod unused_cell;
 mod whole;
 
 pub use applying::{apply, try_hold};
@@ -31,7 +30,7 @@ pub use call_law::{
     one_batch_is_a_hold, one_batch_is_answered, one_call_is_a_hold, one_call_is_answered,
     one_try_is_a_hold, one_try_is_answered,
 };
-pub use call_numbers::{Answered, Asked, called_of, shared_called_of};
+pub use call_numbers::{Answered, Asked, called_of};
 pub use caller::Caller;
 pub use caller_content::CallerContent;
 pub use caller_handle::CallerHandle;
@@ -45,8 +44,8 @@ pub use pinned_codes::shows_codes;
 pub use place::CallerPlace;
 pub use report_codes::{
     ACQUIRED, ACQUIRED_BY_LOOK, AGAIN, BAD_PARAM, BUSY, DONE, DONE_HELD, LOG_FULL, LOG_FULL_HELD,
-    NO_MEMORY, NOT_FOUND, REFUSED, RELEASED, STEPPED, opening_code, progress_code,
-    shared_answer_code, try_code,
+    NO_MEMORY, NOT_FOUND, REFUSED, RELEASED, STEPPED, answer_code, opening_code, progress_code,
+    try_code,
 };
 pub use straight::call_straight;
 pub use whole::{TriedCall, Whole, try_call};

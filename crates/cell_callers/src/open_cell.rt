@@ -2,7 +2,8 @@
 
 ghost use Rattle.std.specs.Prelude.{◌≡◌, ◌<◌};
 ghost use Rattle.std_alloc.specs.Arc.{arc_value};
-ghost use Rattle.cell_callers.specs.{Facts.of_props, Callers.fixed_of, OpenCells.{AreHome, IsBack}};
+ghost use Rattle.guarded_cell.specs.Kinds.{fixed_of};
+ghost use Rattle.cell_callers.specs.{Facts.of_props, OpenCells.{AreHome, IsBack}};
 
 use event_log::SeqObject;
 use guarded_cell::AnyCell;

@@ -93,19 +93,6 @@ pub fn answer_code(
     }
 }
 
-/// The same, once in the library for the calls that needn't be the fastest.
-#[inline(never)]
-pub fn shared_answer_code(
-    done: Result<KReply, NoRoom>,
-    done_as: u32,
-    full_as: u32,
-    answered: &mut Answered,
-) -> u32
-    ensures { (result, answered.new) ≡ answer_code done_as full_as answered.old done }
-{
-    answer_code(done, done_as, full_as, answered)
-}
-
 /// The result of a call whose lock isn't released yet, from its result otherwise.
 pub fn kept_code(reported: u32) -> u32
     ensures { result ≡ kept_code reported }

@@ -9,8 +9,8 @@ use arrayvec::ArrayVec;
 use c_handle::{at_content, at_content_with};
 use cell_callers::{
     Answered, Asked, BUSY, Batch, CallerContent, CallerHandle, DONE, DONE_HELD, LOG_FULL,
-    LOG_FULL_HELD, NOT_FOUND, REFUSED, Replies, TriedCall, batch_in_place, call_straight,
-    called_of, progress_code, shared_answer_code, shared_called_of, try_code, write_calls,
+    LOG_FULL_HELD, NOT_FOUND, REFUSED, Replies, TriedCall, answer_code, batch_in_place,
+    call_straight, called_of, progress_code, try_code, write_calls,
 };
 use event_log::MOST_CALLS;
 use kernel_object::KCall;
@@ -87,7 +87,7 @@ pub extern "C" fn mc2_handle_apply(
 ) -> u32
     ensures { ReportsApply (caller_of caller.old) asked.now answered.old result (caller_of caller.new) answered.new }
 {
-    let Some(call) = shared_called_of(asked) else {
+    let Some(call) = called_of(asked) else {
         return NOT_FOUND;
     };
     match at_content(
@@ -102,7 +102,7 @@ pub extern "C" fn mc2_handle_apply(
             }
         },
     ) {
-        Some(done) => shared_answer_code(done, DONE, LOG_FULL, answered),
+        Some(done) => answer_code(done, DONE, LOG_FULL, answered),
         None => REFUSED,
     }
 }
@@ -200,7 +200,7 @@ pub extern "C" fn mc2_poll_try_call(
 ) -> u32
     ensures { ReportsTryCall (caller_of caller.old) asked.now answered.old result (caller_of caller.new) answered.new }
 {
-    let Some(call) = shared_called_of(asked) else {
+    let Some(call) = called_of(asked) else {
         return NOT_FOUND;
     };
     match at_content(
@@ -215,8 +215,8 @@ pub extern "C" fn mc2_poll_try_call(
             }
         },
     ) {
-        TriedCall::Done(done) => shared_answer_code(done, DONE, LOG_FULL, answered),
-        TriedCall::Kept(done) => shared_answer_code(done, DONE_HELD, LOG_FULL_HELD, answered),
+        TriedCall::Done(done) => answer_code(done, DONE, LOG_FULL, answered),
+        TriedCall::Kept(done) => answer_code(done, DONE_HELD, LOG_FULL_HELD, answered),
         TriedCall::Busy => BUSY,
         TriedCall::Refused => REFUSED,
     }

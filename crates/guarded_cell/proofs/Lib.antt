@@ -4,6 +4,7 @@ pub mod Stays
 pub mod Workers
 pub mod SoundRuns
 pub mod Joins
+pub mod JoinedPasses
 pub mod HeldCalls
 pub mod ManyCallers
 pub mod ManyEnded

@@ -1,4 +1,5 @@
 pub mod Kinds
+pub mod Unused
 pub mod AnyCallers
 pub mod Groups
 pub mod Calls

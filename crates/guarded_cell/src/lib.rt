@@ -14,6 +14,7 @@ mod polls;
 mod real_time;
 mod runs;
 mod tries;
+mod unused_cell;
 mod whole;
 
 pub use any_caller::{AnyCaller, polled_mcs};
@@ -26,5 +27,6 @@ pub use pinned_limits::shows_limits;
 pub use real_time::{one_after_other, returned_before_begun};
 pub use runs::joined_runs_are_sound;
 pub use tries::{Declined, try_batch, try_call};
+pub use unused_cell::end_unused;
 pub use whole::{batch, call, with_hold};
 pub use word_rule::{Hold as AnyHold, Pass as AnyPass};

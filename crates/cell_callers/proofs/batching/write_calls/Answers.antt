@@ -6,7 +6,7 @@ use Rattle.cell_callers.proofs.batching.write_calls.Goals as goal
 pub returns-in_default-clause-not_there : goal.returns-in_default-clause-not_there
 returns-in_default-clause-not_there c = λ _.
     let asked = take c.args.batch.now.count c.args.batch.now.calls in
-    one_lacks asked c.loop-asked.asked-index (record { word = 0; first = 0; second = 0 }) c.loop-asked-test.true (sym c.shared_called_of.ensures ∙ c.in_default.is)
+    one_lacks asked c.loop-asked.asked-index (record { word = 0; first = 0; second = 0 }) c.loop-asked-test.true (sym c.called_of.ensures ∙ c.in_default.is)
 
 pub returns-clause-there : goal.returns-clause-there
 returns-clause-there c = λ _.

@@ -1,6 +1,7 @@
 use Rattle.std.proofs.Common.{◌≡◌, sym, subst, arith, Some}
 use Rattle.std_alloc.specs.Arc.{arc_value}
-use Rattle.cell_callers.specs.{Callers.fixed_of, OpenCells.{AreHome, IsBack}}
+use Rattle.guarded_cell.specs.Kinds.{fixed_of}
+use Rattle.cell_callers.specs.OpenCells.{AreHome, IsBack}
 use Rattle.cell_callers.proofs.Homes.{one_back, owns_all}
 use Rattle.cell_callers.proofs.open_cell.OpenCell.close.Goals as goal
 

@@ -2,8 +2,10 @@ use Rattle.std.proofs.Common.{refl, sym, ap, subst, ◌∙◌, arith}
 use Rattle.std_alloc.specs.Arc.{arc_value}
 use Rattle.word_rule.specs.Cell.{EachAt, stored}
 use Rattle.guarded_cell.specs.Kinds.{kind_of}
-use Rattle.cell_callers.specs.{Callers.fixed_of, OpenCells.AreHome, Unused.IsUnused}
-use Rattle.cell_callers.proofs.{Homes.{new_home, new_numbers, none_back}, JoinedPasses.{new_unused, new_each, new_left}}
+use Rattle.guarded_cell.specs.{Kinds.fixed_of, Unused.IsUnused}
+use Rattle.cell_callers.specs.OpenCells.{AreHome}
+use Rattle.guarded_cell.proofs.JoinedPasses.{new_unused, new_each, new_left}
+use Rattle.cell_callers.proofs.Homes.{new_home, new_numbers, none_back}
 use Rattle.cell_callers.proofs.open_cell.OpenCell.open.Goals as goal
 
 pub invariant_of-result : goal.invariant_of-result

@@ -2,10 +2,10 @@
 
 ghost use Rattle.std.specs.Prelude.{◌≡◌, ◌<◌, true, vec_len};
 ghost use Rattle.word_rule.specs.{Cell.{EachAt, stored}, Passes.view_of_pass};
-ghost use Rattle.cell_callers.specs.{Callers.fixed_of, Unused.{IsUnused, Covers}};
+ghost use Rattle.guarded_cell.specs.{Kinds.fixed_of, Unused.{IsUnused, Covers}};
 
+use crate::cell::AnyCell;
 use event_log::{Logged, SeqObject};
-use guarded_cell::AnyCell;
 use word_rule::{LockCell, Pass};
 
 /// Joins the other passes to the first.

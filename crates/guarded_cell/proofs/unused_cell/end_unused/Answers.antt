@@ -1,9 +1,9 @@
 use Rattle.std.proofs.Common.{◌≡◌, ◌++◌, ◌∷◌, [], ap, ◌∙◌}
 use Rattle.std.specs.Option.{option_to_list}
 use Rattle.word_rule.specs.{Passes.view_of_pass, Cell.OwnsAll}
-use Rattle.cell_callers.specs.Unused.{IsUnused}
-use Rattle.cell_callers.proofs.JoinedPasses.{front_each, last_each, owns_each, left_unused}
-use Rattle.cell_callers.proofs.unused_cell.end_unused.Goals as goal
+use Rattle.guarded_cell.specs.Unused.{IsUnused}
+use Rattle.guarded_cell.proofs.JoinedPasses.{front_each, last_each, owns_each, left_unused}
+use Rattle.guarded_cell.proofs.unused_cell.end_unused.Goals as goal
 
 pub join_unused-whole-requires-clause-first : goal.join_unused-whole-requires-clause-first
 join_unused-whole-requires-clause-first g c =

@@ -2,8 +2,7 @@
 use Rattle.std.specs.{declared.cmp.PartialEq.{Ghosts as Eq}, declared.default.Default.{Ghosts as Default}, Prelude.{◌≡◌, ℕ, true}}
 use Rattle.event_log.specs.{declared.object.SeqObject.Ghosts, Log.of}
 use Rattle.word_rule.specs.{declared.pass.Pass.Pass, Passes.view_of_pass}
-use Rattle.guarded_cell.specs.{declared.cell.AnyCell.AnyCell, Kinds.IsPassOf}
-use Rattle.cell_callers.specs.Callers.{fixed_of}
+use Rattle.guarded_cell.specs.{declared.cell.AnyCell.AnyCell, Kinds.{IsPassOf, fixed_of}}
 
 module _ {O P C R : Type 0} {g : Ghosts O P C R} {call_eq : Eq C} {call_default : Default C} {reply_eq : Eq R} {reply_default : Default R} where
   -- a pass of the cell whose CPUs have done nothing

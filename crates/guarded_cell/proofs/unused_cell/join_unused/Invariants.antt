@@ -1,8 +1,8 @@
 use Rattle.std.proofs.Common.{◌≡◌, ◌++◌}
 use Rattle.std.specs.Vec.Iter.{into_iter_items}
 use Rattle.word_rule.specs.Cell.{EachAt}
-use Rattle.cell_callers.specs.Unused.{IsUnused, Covers}
-use Rattle.cell_callers.proofs.unused_cell.join_unused.Given as goal
+use Rattle.guarded_cell.specs.Unused.{IsUnused, Covers}
+use Rattle.guarded_cell.proofs.unused_cell.join_unused.Given as goal
 
 abbrev pub invariant-loop-pass : goal.invariant-loop-pass
 invariant-loop-pass g l = record {

@@ -2,9 +2,9 @@ use Rattle.std.proofs.{Common.{◌≡◌, ◌∷◌, [], ◌++◌, length, sym, 
 use Rattle.std.specs.Vec.Iter.{into_iter_items}
 use Rattle.event_log.proofs.Lists.{get_behind}
 use Rattle.word_rule.specs.Cell.{EachAt}
-use Rattle.cell_callers.specs.Unused.{Covers}
-use Rattle.cell_callers.proofs.JoinedPasses.{joined_unused, covers_first, covers_more}
-use Rattle.cell_callers.proofs.unused_cell.join_unused.Goals as goal
+use Rattle.guarded_cell.specs.Unused.{Covers}
+use Rattle.guarded_cell.proofs.JoinedPasses.{joined_unused, covers_first, covers_more}
+use Rattle.guarded_cell.proofs.unused_cell.join_unused.Goals as goal
 
 pub loop-pass-init : goal.loop-pass-init
 loop-pass-init g c =

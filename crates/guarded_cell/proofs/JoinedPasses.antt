@@ -1,5 +1,5 @@
 -- The passes of a cell that nobody has called, joined.
-use Rattle.std.proofs.{Common.{◌≡◌, ℕ, ◌<◌, ◌||◌, true, List, [], ◌∷◌, ◌++◌, length, refl, sym, ap, subst, ◌∙◌, arith, slice_get, Some, inl, inr}, lemmas.Bool.{or_right, or_left, or_cases}}
+use Rattle.std.proofs.{Common.{◌≡◌, ℕ, ◌<◌, ◌||◌, true, List, [], ◌∷◌, ◌++◌, length, refl, sym, ap, subst, ◌∙◌, arith, slice_get, Some, inl, inr}, lemmas.Bool.{eq-eqb, or_right, or_left, or_cases}}
 use Rattle.std.specs.{declared.cmp.PartialEq.{Ghosts as Eq}, declared.default.Default.{Ghosts as Default}}
 use mathlib.Core.Logic.{dite}
 use native.Mathlib.Decide.{dec_lt}
@@ -8,9 +8,8 @@ use Rattle.event_log.proofs.Lists.{some_at, get_push, get_front, get_last}
 use Rattle.sound_run.specs.declared.lock_kind.LockKind.{LockKind}
 use Rattle.word_rule.specs.{declared.pass.Pass.Pass, Cell.{EachAt, Grows, OwnsAll, cell_of, first_pass, stored}, Passes.view_of_pass}
 use Rattle.word_rule.proofs.Lists.{same_log, of_opening}
-use Rattle.guarded_cell.specs.{declared.cell.AnyCell.AnyCell, Kinds.IsPassOf}
-use Rattle.cell_callers.specs.{Callers.fixed_of, Unused.{IsUnused, Covers}}
-use Rattle.cell_callers.proofs.Homes.{reported_of, same_number}
+use Rattle.guarded_cell.specs.{declared.cell.AnyCell.AnyCell, Kinds.{IsPassOf, fixed_of}, Unused.{IsUnused, Covers}}
+use Rattle.guarded_cell.specs.declared.cell.AnyCell.TheVariants as cells
 
 -- if all items of a list have something, so have all but the last, and the last
 pub front_each : {A : Type 0} (Q : A → Type 0) (ps xs : List A) (x : A) → ps ≡ xs ++ x ∷ [] → EachAt (λ _ p. Q p) ps → EachAt (λ _ p. Q p) xs
@@ -20,6 +19,11 @@ pub last_each : {A : Type 0} (Q : A → Type 0) (ps xs : List A) (x : A) → ps 
 last_each Q ps xs x split each = each (length xs) x (ap (λ l. slice_get l (length xs)) split ∙ get_last xs x)
 
 module _ {O P C R : Type 0} {g : Ghosts O P C R} {call_eq : Eq C} {call_default : Default C} {reply_eq : Eq R} {reply_default : Default R} where
+  -- a pass has received the key that its cell has received
+  pub reported_of : (cell : AnyCell O P C R) (p : Pass O P C R g call_eq call_default reply_eq reply_default) → IsPassOf cell p → p.outside.key.value ≡ fixed_of cell
+  reported_of (cells.Ticket c) p is = is.reported
+  reported_of (cells.Mcs c) p is = is.reported
+
   -- two passes whose CPUs have done nothing, joined
   pub joined_unused : (cell : AnyCell O P C R) (a b j : Pass O P C R g call_eq call_default reply_eq reply_default) → IsUnused cell a → IsUnused cell b → IsPassOf cell j
       → ((k : ℕ) → (view_of_pass j).caller.owned k ≡ ((view_of_pass a).caller.owned k || (view_of_pass b).caller.owned k))
@@ -79,7 +83,7 @@ module _ {O P C R : Type 0} {g : Ghosts O P C R} {call_eq : Eq C} {call_default 
         record { pass = is.0; none = λ j mine. ap (λ v. of j v.seen) is.1 ∙ sym (ap (λ h. of j h.opening) fixed) }
 
     pub new_each : EachAt (λ k p. (view_of_pass p).caller.owned k ≡ true) ps
-    new_each k p there = ap (λ v. v.caller.owned k) (new k p there).1 ∙ same_number k k refl
+    new_each k p there = ap (λ v. v.caller.owned k) (new k p there).1 ∙ eq-eqb k k refl
 
     pub new_left : 0 < length ps → IsKept g logged → stored g (fixed_of cell) (fixed_of cell).opening ≡ logged
     new_left some kept =
