@@ -1,7 +1,7 @@
 //! The exports that make or free a handle, or take a cell.
 
-ghost use Rattle.std.specs.Prelude.{◌≡◌, ◌⊎◌, ◌↔◌};
-ghost use Rattle.cell_callers.specs.{declared.report_codes.TheConstants.{BAD_PARAM, DONE, NO_MEMORY}, CellContents.IsBadOpening, declared.caller_content.CallerContent.TheVariants.Empty};
+ghost use Rattle.std.specs.Prelude.{◌≡◌, ◌⊎◌, ◌↔◌, ℕ, None};
+ghost use Rattle.cell_callers.specs.{declared.report_codes.TheConstants.{BAD_PARAM, DONE, NO_MEMORY}, CellContents.{IsBadOpening, step_of}, declared.caller_content.CallerContent.TheVariants.Empty};
 ghost use Rattle.cells.specs.{Exports.{caller_of, cell_of}, CellExports.{ReportsOpening, ReportsReopening, ReportsForgetting, ReportsNewCaller, ReportsReturn, ReportsClosing, ReportsFreeing, ReportsStep, owns_back}};
 
 use c_handle::{box_of, handle_of, with_content};
@@ -201,7 +201,8 @@ pub extern "C" fn mc2_handle_reopen_cell(
 /// Returns DONE; REFUSED: the cell isn't closed.
 #[unsafe(no_mangle)]
 pub extern "C" fn mc2_handle_drop_log(alloc: Global, cell: &mut CellHandle) -> u32
-    ensures { ReportsForgetting (cell_of cell.old) result (cell_of cell.new) }
+    ensures dropped { ReportsForgetting (cell_of cell.old) result (cell_of cell.new) }
+    ensures unread { result ≡ DONE → (event step : ℕ) → step_of (cell_of cell.new) event step ≡ None }
 {
     if with_content(cell, (), |content, ()| content.forget(alloc)) {
         DONE
